@@ -1,0 +1,7 @@
+// Links the archives that tools/staticlib wrote for this machine.
+fn main() {
+    let native = format!("{}/../target/native", env!("CARGO_MANIFEST_DIR"));
+    println!("cargo:rustc-link-search=native={native}");
+    println!("cargo:rustc-link-lib=static=float_exports");
+    println!("cargo:rerun-if-changed={native}/libfloat_exports.a");
+}

@@ -1,0 +1,88 @@
+-- What `Rounds` gives, for every operation alike: the order of exact results is kept, and the result is within half a unit in the last place of the exact result. Assumes nothing.
+use mathlib.Core.Path.{_≡_, sym, ap, _∙_, subst}
+use mathlib.Core.Logic.{inl, inr}
+use mathlib.Core.Bool.{Bool, true, false}
+use Prim.Native.Nat.{ℕ, _+_, _-_, _*_, _≤_, _<_}
+use native.Mathlib.Nat.{le-of-lt, mul-le-mul-right, not-le-of-lt, lt-of-not-le, add-le-add}
+use native.Mathlib.Omega.{arith}
+use lib.Dec.{T}
+use lib.Pow.{pow-pos}
+use lib.Ieee.{Float}
+use Rattle.exact.specs.Value.{inUnits, negative, when, unless, plus, minus, double, Less, AtMost}
+use Rattle.exact.specs.Rounding.{grid, Rounds, apart}
+use Rattle.exact.proofs.Grid.{grid-mono, grid-zero, either}
+use Rattle.exact.proofs.Value.{units-rep, grid-rep, units-of-plus, units-of-minus}
+
+-- ---- a double rounds to itself
+pub self-rounds : (y : Float) → T (double y) → Rounds y (plus y) (minus y) 1
+unfolding plus minus
+self-rounds y h = record { is-double = h; plus-is = go (negative y); minus-is = og (negative y) }
+  where
+    go : (s : Bool) → unless s (inUnits y) ≡ grid (unless s (inUnits y) - when s (inUnits y)) 1
+    go true = sym (ap (λ (a : ℕ). grid a 1) (no (inUnits y)) ∙ grid-zero 1 (pow-pos 0))
+      where
+        no : (a : ℕ) → 0 - a ≡ 0
+        no a = omega arith
+    go false = sym (ap (λ (a : ℕ). grid a 1) (yes (inUnits y)) ∙ grid-rep (inUnits y) (units-rep y h))
+      where
+        yes : (a : ℕ) → a - 0 ≡ a
+        yes a = omega arith
+
+    og : (s : Bool) → when s (inUnits y) ≡ grid (when s (inUnits y) - unless s (inUnits y)) 1
+    og true = sym (ap (λ (a : ℕ). grid a 1) (yes (inUnits y)) ∙ grid-rep (inUnits y) (units-rep y h))
+      where
+        yes : (a : ℕ) → a - 0 ≡ a
+        yes a = omega arith
+    og false = sym (ap (λ (a : ℕ). grid a 1) (no (inUnits y)) ∙ grid-zero 1 (pow-pos 0))
+      where
+        no : (a : ℕ) → 0 - a ≡ 0
+        no a = omega arith
+
+-- ---- the order: (p - n) / c ≤ (p' - n') / c'
+sub-mono : (p n c p' n' c' : ℕ) → p * c' + n' * c ≤ p' * c + n * c' → (p - n) * c' ≤ (p' - n') * c
+sub-mono p n c p' n' c' h = elim (either p n) [ inl l ↦ less l | inr l ↦ more (le-of-lt l) ]
+  where
+    less : p ≤ n → (p - n) * c' ≤ (p' - n') * c
+    less l = let z : p - n ≡ 0 = omega arith in subst (λ (a : ℕ). a * c' ≤ (p' - n') * c) (sym z) (omega arith)
+
+    more : n ≤ p → (p - n) * c' ≤ (p' - n') * c
+    more l = go (p - n) (p' - n') (omega arith) (omega arith)
+      where
+        go : (d d' : ℕ) → p ≡ n + d → p' ≤ n' + d' → d * c' ≤ d' * c
+        go d d' e f =
+            let x : p * c' ≡ (n + d) * c' = ap (λ (a : ℕ). a * c') e in
+            let y : p' * c ≤ (n' + d') * c = mul-le-mul-right c f in
+            omega arith
+
+pub rounds-mono : (r r' : Float) (p n c p' n' c' : ℕ) → Rounds r p n c → Rounds r' p' n' c' → 0 < c → 0 < c' → p * c' + n' * c ≤ p' * c + n * c' → AtMost r r'
+rounds-mono r r' p n c p' n' c' R R' C C' h =
+    let x : plus r ≤ plus r' = subst (λ (a : ℕ). a ≤ plus r') (sym (R .plus-is)) (subst (λ (a : ℕ). grid (p - n) c ≤ a) (sym (R' .plus-is)) (grid-mono (p - n) c (p' - n') c' C C' (sub-mono p n c p' n' c' h))) in
+    let y : minus r' ≤ minus r = subst (λ (a : ℕ). a ≤ minus r) (sym (R' .minus-is)) (subst (λ (a : ℕ). grid (n' - p') c' ≤ a) (sym (R .minus-is)) (grid-mono (n' - p') c' (n - p) c C' C (sub-mono n' p' c' n p c (omega arith)))) in
+    add-le-add x y
+
+-- an exact result at most y, or at least y, for a double y: so is the result
+pub rounds-le : (r y : Float) (p n c : ℕ) → Rounds r p n c → 0 < c → T (double y) → p + minus y * c ≤ plus y * c + n → AtMost r y
+rounds-le r y p n c R C h l = rounds-mono r y p n c (plus y) (minus y) 1 R (self-rounds y h) C (pow-pos 0) (omega arith)
+
+pub rounds-ge : (r y : Float) (p n c : ℕ) → Rounds r p n c → 0 < c → T (double y) → plus y * c + n ≤ p + minus y * c → AtMost y r
+rounds-ge r y p n c R C h l = rounds-mono y r (plus y) (minus y) 1 p n c (self-rounds y h) R (pow-pos 0) C (omega arith)
+
+-- so a result below y has an exact result below y, and one above y an exact result above y
+pub rounds-lt : (r y : Float) (p n c : ℕ) → Rounds r p n c → 0 < c → T (double y) → Less r y → p + minus y * c < plus y * c + n
+rounds-lt r y p n c R C h l = lt-of-not-le (λ (k : plus y * c + n ≤ p + minus y * c). not-le-of-lt l (rounds-ge r y p n c R C h k))
+
+pub rounds-gt : (r y : Float) (p n c : ℕ) → Rounds r p n c → 0 < c → T (double y) → Less y r → plus y * c + n < p + minus y * c
+rounds-gt r y p n c R C h l = lt-of-not-le (λ (k : p + minus y * c ≤ plus y * c + n). not-le-of-lt l (rounds-le r y p n c R C h k))
+
+-- ---- the size of a result
+pub rounds-units : (r : Float) (p n c : ℕ) → Rounds r p n c → 0 < c → inUnits r ≡ grid (apart p n) c
+rounds-units r p n c R C = elim (either n p) [
+  | inl l ↦
+      let z : n - p ≡ 0 = omega arith in
+      let s : p - n ≡ apart p n = omega arith in
+      units-of-plus r (R .minus-is ∙ ap (λ (a : ℕ). grid a c) z ∙ grid-zero c C) ∙ R .plus-is ∙ ap (λ (a : ℕ). grid a c) s
+  | inr l ↦
+      let z : p - n ≡ 0 = omega arith in
+      let s : n - p ≡ apart p n = omega arith in
+      units-of-minus r (R .plus-is ∙ ap (λ (a : ℕ). grid a c) z ∙ grid-zero c C) ∙ R .minus-is ∙ ap (λ (a : ℕ). grid a c) s
+]

@@ -1,0 +1,15 @@
+pub mod Exponents
+pub mod LogBound
+pub mod LogDistance
+pub mod LogEnds
+pub mod LogNested
+pub mod LogRange
+pub mod LogScaling
+pub mod LogTerms
+pub mod LogWords
+pub mod RootBits
+pub mod RootCases
+pub mod RootSquares
+pub mod Signs
+pub mod SquareRoot
+pub mod Squaring

@@ -1,0 +1,1 @@
+pub fn middle ( x1 : f64 , x2 : f64 ) -> f64 ;

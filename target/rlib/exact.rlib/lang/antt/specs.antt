@@ -1,0 +1,4 @@
+pub mod Operations
+pub mod Value
+pub mod Rounding
+pub mod Middle
