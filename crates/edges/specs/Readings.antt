@@ -4,7 +4,7 @@ use mathlib.Core.Path.{_≡_}
 use mathlib.Core.Bool.{true}
 use mathlib.Core.List.{List, [], _∷_}
 use lib.Ieee.{Float, nan}
-use Rattle.float.specs.Decimal.{+_, −_, Decimal, number, rounded}
+use Rattle.float.specs.Decimal.{+_, −_, number, rounded}
 use Rattle.float.specs.Power.{wholePower}
 use Rattle.float.specs.Root.{squareRoot, fourthRoot}
 

@@ -1,0 +1,3 @@
+pub mod Constant
+pub mod Table1
+pub mod Boundaries

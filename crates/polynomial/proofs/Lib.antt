@@ -1,0 +1,3 @@
+pub mod Exponents
+pub mod Rows
+pub mod Components

@@ -1,0 +1,67 @@
+-- A table by columns, its parts, and the tests that are made once over it: the range of its exponents, and where it is cut into tiles.
+use Prim.Native.Nat.{ℕ, _-_, _≤_}
+use mathlib.Core.Path.{_≡_}
+use mathlib.Core.Bool.{Bool, true, false, _&&_}
+use mathlib.Core.Logic.{_⊎_}
+use mathlib.Core.List.{List, [], _∷_, map}
+use lib.Dec.{T, leb, eqb}
+use lib.ListN.{length, take, drop}
+use lib.IntN.{ℤ}
+use lib.Signed.{leZ}
+use lib.Ieee.{Float}
+use Rattle.float.specs.Decimal.{+_, −_, Decimal, rounded}
+use Rattle.polynomial.specs.Terms.{Row, row}
+
+-- three columns as a table, as long as the shortest
+unfoldable pub rows : List ℤ → List ℤ → List Float → List Row
+rows [] js ns = []
+rows (i ∷ is) [] ns = []
+rows (i ∷ is) (j ∷ js) [] = []
+rows (i ∷ is) (j ∷ js) (n ∷ ns) = row i j n ∷ rows is js ns
+
+-- the rows from a up to e
+abbrev pub part : {A : Type 0} → ℕ → ℕ → List A → List A
+part a e rs = take (e - a) (drop a rs)
+
+-- the exponents of the tables, so that those less 2 are from -43 to 58
+abbrev pub inRange : ℤ → Bool
+inRange k = leZ (− 41) k && leZ k (+ 58)
+
+unfoldable pub allInRange : List ℤ → Bool
+allInRange [] = true
+allInRange (k ∷ ks) = inRange k && allInRange ks
+
+-- the cuts between tiles: from 0 they rise to the table's length
+unfoldable pub cutsFrom : ℕ → ℕ → List ℕ → Bool
+cutsFrom n a [] = eqb a n
+cutsFrom n a (e ∷ es) = leb a e && leb e n && cutsFrom n e es
+
+abbrev pub cuts : ℕ → List ℕ → Bool
+cuts n [] = false
+cuts n (a ∷ es) = eqb a 0 && cutsFrom n a es
+
+-- what the sums ask of a table: columns of one length, exponents in range, tiles that are the table
+pub record Table (is js : List ℤ) (ns : List Float) (steps : List ℕ) : Type 0 where
+  pub firsts : T (allInRange is)
+  pub seconds : T (allInRange js)
+  pub as-long-j : length js ≡ length is
+  pub as-long-n : length ns ≡ length is
+  pub tiled : T (cuts (length is) steps)
+
+-- n is the least of three numbers
+pub record Least (n a b c : ℕ) : Type 0 where
+  pub first : n ≤ a
+  pub second : n ≤ b
+  pub third : n ≤ c
+  pub one : (n ≡ a) ⊎ (n ≡ b) ⊎ (n ≡ c)
+
+-- ---- a table as a document prints it: exponents and exact decimals
+pub data Printed : Type 0 where
+  printed : ℤ → ℤ → Decimal → Printed
+
+abbrev pub asRow : Printed → Row
+asRow (printed I J n) = row I J (rounded n)
+
+-- each coefficient rounded once to a double
+abbrev pub doubles : List Printed → List Row
+doubles table = map asRow table

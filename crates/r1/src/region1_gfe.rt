@@ -1,0 +1,160 @@
+// The dimensionless Gibbs free energy of region 1: its table and its derivatives.
+ghost use mathlib.Core.Path.{_≡_};
+ghost use Rattle.r1.specs.Region1.{gammaPi, gammaTau, gammaTauTau, derivatives};
+use polynomial::Sums;
+use polynomial::poly_i_powi_steps;
+use polynomial::poly_j_powi_steps;
+use polynomial::poly_jj_powi_steps;
+use polynomial::polys_powi_steps;
+
+// Table 2 of the release, by columns.
+const I: [i32; 34] = [
+    0,
+    0,
+    0,
+    0,
+    0,
+    0,
+    0,
+    0,
+    1,
+    1,
+    1,
+    1,
+    1,
+    1,
+    2,
+    2,
+    2,
+    2,
+    2,
+    3,
+    3,
+    3,
+    4,
+    4,
+    4,
+    5,
+    8,
+    8,
+    21,
+    23,
+    29,
+    30,
+    31,
+    32,
+];
+
+const J: [i32; 34] = [
+    -2,
+    -1,
+    0,
+    1,
+    2,
+    3,
+    4,
+    5,
+    -9,
+    -7,
+    -1,
+    0,
+    1,
+    3,
+    -3,
+    0,
+    1,
+    3,
+    17,
+    -4,
+    0,
+    6,
+    -5,
+    -2,
+    10,
+    -8,
+    -11,
+    -6,
+    -29,
+    -31,
+    -38,
+    -39,
+    -40,
+    -41,
+];
+
+const N: [f64; 34] = [
+    0.14632971213167e0,
+    -0.84548187169114e0,
+    -0.37563603672040e1,
+    0.33855169168385e1,
+    -0.95791963387872e0,
+    0.15772038513228e0,
+    -0.16616417199501e-1,
+    0.81214629983568e-3,
+    0.28319080123804e-3,
+    -0.60706301565874e-3,
+    -0.18990068218419e-1,
+    -0.32529748770505e-1,
+    -0.21841717175414e-1,
+    -0.52838357969930e-4,
+    -0.47184321073267e-3,
+    -0.30001780793026e-3,
+    0.47661393906987e-4,
+    -0.44141845330846e-5,
+    -0.72694996297594e-15,
+    -0.31679644845054e-4,
+    -0.28270797985312e-5,
+    -0.85205128120103e-9,
+    -0.22425281908000e-5,
+    -0.65171222895601e-6,
+    -0.14341729937924e-12,
+    -0.40516996860117e-6,
+    -0.12734301741641e-8,
+    -0.17424871230634e-9,
+    -0.68762131295531e-18,
+    0.14478307828521e-19,
+    0.26335781662795e-22,
+    -0.11947622640071e-22,
+    0.18228094581404e-23,
+    -0.93537087292458e-25,
+];
+
+// The first derivative in pi.
+pub fn gamma_pi_reg1(pi: f64, tau: f64) -> f64
+    ensures { λ r. ⌜ r ≡ gammaPi pi tau ⌝ }
+{
+    let steps: [usize; 3] = [0, 17, 34];
+    -poly_i_powi_steps(7.1 - pi, tau - 1.222, &I, &J, &N, &steps)
+}
+
+// The first derivative in tau.
+pub fn gamma_tau_reg1(pi: f64, tau: f64) -> f64
+    ensures { λ r. ⌜ r ≡ gammaTau pi tau ⌝ }
+{
+    let steps: [usize; 3] = [0, 17, 34];
+    poly_j_powi_steps(7.1 - pi, tau - 1.222, &I, &J, &N, &steps)
+}
+
+// The second derivative in tau.
+pub fn gamma_tautau_reg1(pi: f64, tau: f64) -> f64
+    ensures { λ r. ⌜ r ≡ gammaTauTau pi tau ⌝ }
+{
+    let steps: [usize; 4] = [0, 15, 26, 34];
+    poly_jj_powi_steps(7.1 - pi, tau - 1.222, &I, &J, &N, &steps)
+}
+
+// All sums that share their powers, as derivatives: what polys_0_j_powi_reg1, polys_i_j_powi_reg1 and polys_i_ii_ij_jj_powi_reg1 give, together.
+pub fn polys_powi_reg1(pi: f64, tau: f64) -> Sums
+    ensures { λ r. ⌜ r ≡ derivatives pi tau ⌝ }
+{
+    let steps: [usize; 5] = [0, 11, 20, 28, 34];
+    let d = polys_powi_steps(7.1 - pi, tau - 1.222, &I, &J, &N, &steps);
+    Sums {
+        zero: d.zero,
+        i: -d.i,
+        j: d.j,
+        ii: d.ii,
+        ij: -d.ij,
+        jj: d.jj,
+    }
+}

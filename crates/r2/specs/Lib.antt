@@ -1,0 +1,3 @@
+pub mod Table10
+pub mod Table11
+pub mod Region2

@@ -1,0 +1,2 @@
+pub mod Table34
+pub mod Saturation
