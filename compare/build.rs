@@ -2,6 +2,6 @@
 fn main() {
     let native = format!("{}/../target/native", env!("CARGO_MANIFEST_DIR"));
     println!("cargo:rustc-link-search=native={native}");
-    println!("cargo:rustc-link-lib=static=float_exports");
-    println!("cargo:rerun-if-changed={native}/libfloat_exports.a");
+    println!("cargo:rustc-link-lib=static=exports");
+    println!("cargo:rerun-if-changed={native}/libexports.a");
 }

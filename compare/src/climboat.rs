@@ -11,6 +11,24 @@ mod archive {
         pub fn float_sqrt(x: f64) -> f64;
         pub fn float_fourth_root(x: f64) -> f64;
         pub fn float_ln(x: f64) -> f64;
+        pub fn region1_v(p: f64, t: f64) -> f64;
+        pub fn region1_u(p: f64, t: f64) -> f64;
+        pub fn region1_s(p: f64, t: f64) -> f64;
+        pub fn region1_h(p: f64, t: f64) -> f64;
+        pub fn region1_cp(p: f64, t: f64) -> f64;
+        pub fn region1_cv(p: f64, t: f64) -> f64;
+        pub fn region1_w(p: f64, t: f64) -> f64;
+        pub fn region2_v(p: f64, t: f64) -> f64;
+        pub fn region2_u(p: f64, t: f64) -> f64;
+        pub fn region2_s(p: f64, t: f64) -> f64;
+        pub fn region2_h(p: f64, t: f64) -> f64;
+        pub fn region2_cp(p: f64, t: f64) -> f64;
+        pub fn region2_cv(p: f64, t: f64) -> f64;
+        pub fn region2_w(p: f64, t: f64) -> f64;
+        pub fn saturation_pressure(t: f64) -> f64;
+        pub fn saturation_temperature(p: f64) -> f64;
+        pub fn b23_pressure(t: f64) -> f64;
+        pub fn b23_temperature(p: f64) -> f64;
     }
 }
 
@@ -33,4 +51,22 @@ wrapped! {
     sqrt(x: f64) -> f64 = float_sqrt;
     fourth_root(x: f64) -> f64 = float_fourth_root;
     ln(x: f64) -> f64 = float_ln;
+    region1_v(p: f64, t: f64) -> f64 = region1_v;
+    region1_u(p: f64, t: f64) -> f64 = region1_u;
+    region1_s(p: f64, t: f64) -> f64 = region1_s;
+    region1_h(p: f64, t: f64) -> f64 = region1_h;
+    region1_cp(p: f64, t: f64) -> f64 = region1_cp;
+    region1_cv(p: f64, t: f64) -> f64 = region1_cv;
+    region1_w(p: f64, t: f64) -> f64 = region1_w;
+    region2_v(p: f64, t: f64) -> f64 = region2_v;
+    region2_u(p: f64, t: f64) -> f64 = region2_u;
+    region2_s(p: f64, t: f64) -> f64 = region2_s;
+    region2_h(p: f64, t: f64) -> f64 = region2_h;
+    region2_cp(p: f64, t: f64) -> f64 = region2_cp;
+    region2_cv(p: f64, t: f64) -> f64 = region2_cv;
+    region2_w(p: f64, t: f64) -> f64 = region2_w;
+    saturation_pressure(t: f64) -> f64 = saturation_pressure;
+    saturation_temperature(p: f64) -> f64 = saturation_temperature;
+    b23_pressure(t: f64) -> f64 = b23_pressure;
+    b23_temperature(p: f64) -> f64 = b23_temperature;
 }

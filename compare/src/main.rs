@@ -1,7 +1,9 @@
-//! Climboat against Rust: `compare helpers` compares the float helpers, `compare timing` prints the table of docs/SPEED.md.
+//! Climboat against Rust: `compare helpers` compares the float helpers, `compare equations` the equations with the original crate, `compare timing` prints the tables of docs/SPEED.md.
 
 mod climboat;
 mod draw;
+#[cfg(feature = "original")]
+mod equations;
 mod helpers;
 mod tally;
 mod timing;
@@ -11,17 +13,24 @@ use std::process::ExitCode;
 fn main() -> ExitCode {
     let words: Vec<String> = std::env::args().skip(1).collect();
     match words.iter().map(String::as_str).collect::<Vec<_>>()[..] {
-        ["helpers"] => match helpers::compare() {
-            true => ExitCode::SUCCESS,
-            false => ExitCode::FAILURE,
-        },
+        ["helpers"] => told(helpers::compare()),
+        #[cfg(feature = "original")]
+        ["equations"] => told(equations::compare()),
         ["timing"] => {
-            timing::table();
+            timing::tables();
             ExitCode::SUCCESS
         }
         _ => {
-            eprintln!("usage: compare helpers | timing");
+            eprintln!("usage: compare helpers | equations | timing (equations where the original crate is at hand)");
             ExitCode::from(2)
         }
+    }
+}
+
+fn told(good: bool) -> ExitCode {
+    if good {
+        ExitCode::SUCCESS
+    } else {
+        ExitCode::FAILURE
     }
 }

@@ -26,7 +26,35 @@ fn row<T>(what: &str, inputs: &[T], ours: impl FnMut(&T) -> f64, rusts: impl FnM
     println!("| {what} | {a:.1} ns | {b:.1} ns | {:.1} |", a / b);
 }
 
-pub fn table() {
+pub fn tables() {
+    helpers();
+    #[cfg(feature = "original")]
+    properties();
+}
+
+/// The fourteen properties and the saturation line, over 20,000 states each.
+#[cfg(feature = "original")]
+fn properties() {
+    use crate::equations::{REGION_1, REGION_2};
+    let mut draw = Draw::new(0x0c1b_0a70_0000_0006);
+    let one: Vec<(f64, f64)> = (0..20_000).map(|_| (draw.between(20.0, 100.0), draw.between(273.15, 623.15))).collect();
+    let two: Vec<(f64, f64)> = (0..20_000).map(|_| (draw.logarithmic(1.0e-8, 0.0006), draw.between(273.15, 1073.15))).collect();
+    println!();
+    println!("| property | Climboat | original | ratio |");
+    println!("|---|---|---|---|");
+    for (rows, states) in [(&REGION_1, &one), (&REGION_2, &two)] {
+        for r in rows {
+            row(r.name, states, |s| (r.ours)(s.0, s.1), |s| (r.rusts)(s.0, s.1));
+        }
+    }
+    let temperatures: Vec<f64> = (0..20_000).map(|_| draw.between(273.15, 647.0)).collect();
+    let pressures: Vec<f64> = (0..20_000).map(|_| draw.logarithmic(0.00062, 22.0)).collect();
+    use original::r4::region4_sat_pT::{T_saturation, p_saturation};
+    row("saturation pressure", &temperatures, |&t| climboat::saturation_pressure(t), |&t| p_saturation(t));
+    row("saturation temperature", &pressures, |&p| climboat::saturation_temperature(p), |&p| T_saturation(p));
+}
+
+fn helpers() {
     let mut draw = Draw::new(0x0c1b_0a70_0000_0005);
     let powers: Vec<(f64, i32)> = (0..200_000).map(|_| (draw.between(0.01, 8.0), draw.below(102) as i32 - 43)).collect();
     let roots: Vec<f64> = (0..200_000).map(|_| draw.logarithmic(1.0e-8, 1.0e8)).collect();

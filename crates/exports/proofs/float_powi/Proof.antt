@@ -1,8 +1,8 @@
--- `float_exports::float_powi` meets its contract: the exponent is read back as it was handed on. Assumes nothing.
+-- `exports::float_powi` meets its contract: the exponent is read back as it was handed on. Assumes nothing.
 use borrow.Author.Needs.{needs}
 use mir.Facts.{toZ-ofZ}
-use Rattle.float_exports.proofs.float_powi.Statement.{statement}
-use Rattle.float_exports.proofs.float_powi.Tie as tie
+use Rattle.exports.proofs.float_powi.Statement.{statement}
+use Rattle.exports.proofs.float_powi.Tie as tie
 
 powi-requires : tie.Need-powi-requires
 powi-requires c κs = search needs
