@@ -46,6 +46,11 @@ most P23 = p-most
 unfoldable pub inside : Range → Float → Bool
 inside range x = le (least range) x && le x (most range)
 
--- ---- what a boundary answers: 1 for an input that is not finite, `number` outside its range, 9 for a result that is not finite
+-- ---- what a boundary answers
+-- as a bracket end or a region's boundary: 9 where it is not finite
+unfoldable pub found : Float → Boundary
+found result = cond (finite result) (At result) (Refused 9)
+
+-- as a call: 1 for an input that is not finite, `number` outside its range, 9 for a result that is not finite
 unfoldable pub checked : ℕ → Range → Float → Float → Boundary
-checked number range x result = cond (finite x) (cond (inside range x) (cond (finite result) (At result) (Refused 9)) (Refused number)) (Refused 1)
+checked number range x result = cond (finite x) (cond (inside range x) (found result) (Refused number)) (Refused 1)

@@ -1,6 +1,6 @@
 // The boundary between regions 2 and 3, and the ranges that read no boundary.
 ghost use mathlib.Core.Path.{_≡_};
-ghost use Rattle.common.specs.Boundaries.{B23-p, B23-T, least as leastOf, most as mostOf, inside as insideOf, checked as checkedOf};
+ghost use Rattle.common.specs.Boundaries.{B23-p, B23-T, least as leastOf, most as mostOf, inside as insideOf, found as foundOf, checked as checkedOf};
 use crate::constant::P_MAX;
 use crate::constant::P_MAX4;
 use crate::constant::P_MIN1;
@@ -87,6 +87,16 @@ pub fn inside(range: Range, x: f64) -> bool
     false
 }
 
+// What a boundary answers as a bracket end or a region's boundary: its double, or 9 where that is not finite.
+pub fn found(result: f64) -> Boundary
+    ensures { λ r. ⌜ r ≡ foundOf result ⌝ }
+{
+    if is_finite(result) {
+        return Boundary::At(result);
+    }
+    Boundary::Refused(9)
+}
+
 // What a boundary answers at x: the formula's result, or the number of the refusal.
 pub fn checked(number: u32, range: Range, x: f64, result: f64) -> Boundary
     ensures { λ r. ⌜ r ≡ checkedOf number range x result ⌝ }
@@ -97,8 +107,5 @@ pub fn checked(number: u32, range: Range, x: f64, result: f64) -> Boundary
     if !inside(range, x) {
         return Boundary::Refused(number);
     }
-    if !is_finite(result) {
-        return Boundary::Refused(9);
-    }
-    Boundary::At(result)
+    found(result)
 }

@@ -19,25 +19,14 @@ returns-2 : tie.Need-returns-2
 unfolding checked
 returns-2 c = rw (← c .before .before .before .is-finite .ensures, not-false (c .before .before .before .is-finite .result) (c .before .before .if1 .left), ← c .before .inside .ensures, not-true (c .before .inside .result) (c .if2 .taken))
 
-is-finite-requires-2 : tie.Need-is-finite-requires-2
-is-finite-requires-2 c κs = search needs
+found-requires : tie.Need-found-requires
+found-requires c κs = search needs
 
 returns-3 : tie.Need-returns-3
 unfolding checked
-returns-3 c = rw (← c .before .before .before .before .before .is-finite .ensures, not-false (c .before .before .before .before .before .is-finite .result) (c .before .before .before .before .if1 .left), ← c .before .before .before .inside .ensures, not-false (c .before .before .before .inside .result) (c .before .before .if2 .left), ← c .before .is-finite2 .ensures, not-true (c .before .is-finite2 .result) (c .if3 .taken))
-
-returns-4 : tie.Need-returns-4
-unfolding checked
-returns-4 c = rw (← c .before .before .before .before .before .is-finite .ensures, not-false (c .before .before .before .before .before .is-finite .result) (c .before .before .before .before .if1 .left), ← c .before .before .before .inside .ensures, not-false (c .before .before .before .inside .result) (c .before .before .if2 .left), ← c .before .is-finite2 .ensures, not-false (c .before .is-finite2 .result) (c .if3 .left))
+returns-3 c = rw (← c .before .before .before .before .is-finite .ensures, not-false (c .before .before .before .before .is-finite .result) (c .before .before .before .if1 .left), ← c .before .before .inside .ensures, not-false (c .before .before .inside .result) (c .before .if2 .left), ← c .found .ensures)
 
 pub checked-spec : {M : Type 1} → statement M
 checked-spec =
     tie.close
-    (tie.spec
-    is-finite-requires
-    returns
-    inside-requires
-    returns-2
-    is-finite-requires-2
-    returns-3
-    returns-4)
+    (tie.spec is-finite-requires returns inside-requires returns-2 found-requires returns-3)

@@ -1,0 +1,159 @@
+-- Demand 3 of bisection, for any residual function: the brackets of a run are nested with opposite residuals, and an outcome is what demand 3 owes. A turn is inverted once (`rule`); a middle
+-- that is not outside has a sum that does not overflow, so it lies between the ends, and the sign rule keeps the residuals opposite. Assumes nothing.
+use mathlib.Core.Path.{_≡_, refl, subst}
+use mathlib.Core.Logic.{_⊎_, inl, inr}
+use mathlib.Core.Bool.{Bool, true, false, cond, _||_, true≢false}
+use mathlib.Core.List.{map-id}
+use Prim.Native.Nat.{ℕ, _+_, _*_, _<_}
+use native.Mathlib.Nat.{le-refl, lt-irrefl, lt-of-lt-of-le, mul-pos}
+use native.Mathlib.Omega.{arith}
+use lib.Dec.{T}
+use lib.Ieee.{Float, nan, inf, fin, binary64, up, down, add, mul, lt, le}
+use lib.Ieee.Fits.{down-pos}
+use lib.Ieee.Order.{round-mono}
+use lib.Ieee.Scale.{finite}
+use Rattle.exact.specs.Operations.{_⊕_, _⊖_, _⊗_}
+use Rattle.exact.specs.Value.{inUnits, plus, minus, double}
+use Rattle.exact.specs.Middle.{half, middle}
+use Rattle.exact.proofs.Operations.{sub-rounds}
+use Rattle.exact.proofs.Halfway.{halfway}
+use Rattle.exact.proofs.Width.{narrow as narrow-exact, width-finite}
+use Rattle.float.specs.Sign.{nought, magnitude, sameSign}
+use Rattle.search.specs.Run.{Go, stop, go, statesFrom}
+use Rattle.search.specs.Bisection.{small, middleOf, outside, step, narrow, turn, turnGo, next, spent, bisection, bisectionBrackets}
+use Rattle.search.specs.Demand.{Opposite, Start, Within, Nested, BisectionOwes}
+use Rattle.search.specs.declared.bracket.Bracket.{Bracket}
+use Rattle.search.specs.declared.bracket.Outcome.{Outcome}
+use Rattle.search.specs.declared.bracket.Outcome.the-variants.{SmallResidual, Narrow, Refused}
+use Rattle.search.specs.declared.bisection.Turn.the-variants.{Done, Next}
+use Rattle.search.proofs.Runs.{Hands, keeps}
+use Rattle.search.proofs.Magnitude.{magnitude-lt}
+use Rattle.search.proofs.Residuals.{Nonzero, of-true, not-small, sign-rule}
+use Rattle.search.proofs.Places.{Place, Held, no-minus, widened, own, within, signed, started, enclosed, nested}
+
+-- ---- the middle: a sum of two numbers above zero is no NaN, and where it overflows the middle is outside
+no-nan : (x y : Float) → 0 < plus x → 0 < plus y → T (le (x ⊕ y) (x ⊕ y))
+unfolding add plus
+no-nan nan y p q = absurd (lt-irrefl 0 p)
+no-nan (inf true) y p q = absurd (lt-irrefl 0 p)
+no-nan (inf false) y p q = absurd (lt-irrefl 0 p)
+no-nan (fin true m e) y p q = absurd (lt-irrefl 0 p)
+no-nan (fin false m e) nan p q = absurd (lt-irrefl 0 q)
+no-nan (fin false m e) (inf true) p q = absurd (lt-irrefl 0 q)
+no-nan (fin false m e) (inf false) p q = absurd (lt-irrefl 0 q)
+no-nan (fin false m e) (fin true n d) p q = absurd (lt-irrefl 0 q)
+no-nan (fin false m e) (fin false n d) p q =
+    let a = m * up e * down d + n * up d * down e in
+    let c = down e * down d in
+    let C : 0 < c = mul-pos (down-pos e) (down-pos d) in
+    round-mono binary64 a c a c C C (le-refl (a * c))
+
+overflow : (s x y : Float) → T (le s s) → T (double x) → T (double y) → (lt (half ⊗ s) x || lt y (half ⊗ s)) ≡ false → T (finite s)
+unfolding le lt mul
+overflow nan x y n p q h = n
+overflow (inf s) nan y n p q h = absurd p
+overflow (inf s) (inf t) y n p q h = absurd p
+overflow (inf s) (fin t m e) nan n p q h = absurd q
+overflow (inf s) (fin t m e) (inf u) n p q h = absurd q
+overflow (inf true) (fin t m e) (fin u k d) n p q h = true≢false h
+overflow (inf false) (fin t m e) (fin u k d) n p q h = true≢false h
+overflow (fin s k d) x y n p q h = tt
+
+module _ (f : Float → Float) (w b : Bracket) (h : Held f w b) where
+  abbrev m : Float
+  m = middleOf b
+
+  middled : outside b ≡ false → Place f b m (f m)
+  unfolding outside middle
+  middled i =
+      let l = h .lower in
+      let u = h .upper in
+      let H = halfway (b .x1) (b .x2) (l .is-double) (u .is-double) (no-minus (b .x1) (l .some)) (no-minus (b .x2) (u .some)) (h .order)
+      (overflow (b .x1 ⊕ b .x2) (b .x1) (b .x2) (no-nan (b .x1) (b .x2) (l .some) (u .some)) (l .is-double) (u .is-double) i) in
+      record { is-double = H .is-double; some = lt-of-lt-of-le (l .some) (H .above); residual = refl; from-lower = H .above; to-upper = H .under }
+
+  -- ---- the width before the step
+  thin : (width : Float) → T (double width) → narrow width b ≡ true → plus (b .x2) < inUnits width + plus (b .x1)
+  unfolding narrow
+  thin width d t =
+      let p = h .lower .is-double in
+      let q = h .upper .is-double in
+      let z1 : minus (b .x1) ≡ 0 = no-minus (b .x1) (h .lower .some) in
+      let z2 : minus (b .x2) ≡ 0 = no-minus (b .x2) (h .upper .some) in
+      let F = width-finite (b .x1) (b .x2) p q z1 z2 in
+      let l = narrow-exact (b .x1) (b .x2) p q F width d (magnitude-lt (b .x1 ⊖ b .x2) width (sub-rounds (b .x1) (b .x2) p q F .is-double) d (of-true t)) in
+      omega (arith, l)
+
+-- ---- what a step keeps: a bracket in w with opposite residuals
+abbrev Kept : (Float → Float) → Bracket → Bracket → Type 0
+Kept f w b = Held f w b × Opposite (b .r1) (b .r2)
+
+kept : (f : Float → Float) (w b : Bracket) → Kept f w b → outside b ≡ false → Nonzero (f (middleOf b)) → Kept f w (step b (f (middleOf b)))
+unfolding step
+kept f w b (h, o) i n = by (sign-rule r (b .r1) (b .r2) n o)
+  where
+    r : Float
+    r = f (middleOf b)
+
+    p : Place f b (middleOf b) r
+    p = middled f w b h i
+
+    by : ((sameSign r (b .r1) ≡ true) × Opposite r (b .r2)) ⊎ ((sameSign r (b .r1) ≡ false) × Opposite (b .r1) r) → Kept f w (step b r)
+    by (inl v) = rw (v .0) (record { lower = widened h p; upper = h .upper; order = p .to-upper }, v .1)
+    by (inr v) = rw (v .0) (record { lower = h .lower; upper = widened h p; order = p .from-lower }, v .1)
+
+-- ---- which rule a turn went by
+module _ (width : Float) (f : Float → Float) where
+  data Rule (b : Bracket) (n : ℕ) : Go Outcome Bracket → Type 0 where
+    outside-now : Rule b n (stop (Refused 10 nought n b))
+    spoilt-now : Rule b n (stop (Refused 6 nought (n + 1) b))
+    small-now : lt (magnitude (f (middleOf b))) small ≡ true → Rule b n (stop (SmallResidual (middleOf b) (n + 1) b))
+    narrow-now : outside b ≡ false → narrow width b ≡ true → Rule b n (stop (Narrow (middleOf b) (n + 1) b))
+    next-now : outside b ≡ false → Nonzero (f (middleOf b)) → Rule b n (go (step b (f (middleOf b))))
+
+  rule : (b : Bracket) (n : ℕ) → Rule b n (next width f b n)
+  unfolding next turn
+  rule b n = pick (outside b) refl (finite (f m)) refl (lt (magnitude (f m)) small) refl (narrow width b) refl
+    where
+      m : Float
+      m = middleOf b
+
+      pick : (o : Bool) → outside b ≡ o → (g : Bool) → finite (f m) ≡ g → (s : Bool) → lt (magnitude (f m)) small ≡ s → (w : Bool) → narrow width b ≡ w
+          → Rule b n (cond o (stop (Refused 10 nought n b)) (turnGo (cond g (cond s (Done (SmallResidual m (n + 1) b)) (cond w (Done (Narrow m (n + 1) b)) (Next (step b (f m))))) (Done (Refused 6 nought (n + 1) b)))))
+      pick true p g q s r w v = outside-now
+      pick false p false q s r w v = spoilt-now
+      pick false p true q true r w v = small-now r
+      pick false p true q false r true v = narrow-now p v
+      pick false p true q false r false v = next-now p (not-small (f m) q r)
+
+  -- ---- the brackets of a run
+  inward : (b : Bracket) (n : ℕ) → Kept f b b → Hands (λ o. Prim.Unit {0}) (λ c. Kept f c c × Within c b) (next width f b n)
+  inward b n k = by (rule b n)
+    where
+      by : {t : Go Outcome Bracket} → Rule b n t → Hands (λ o. Prim.Unit {0}) (λ c. Kept f c c × Within c b) t
+      by outside-now = tt
+      by spoilt-now = tt
+      by (small-now p) = tt
+      by (narrow-now p q) = tt
+      by (next-now i z) = let v = kept f b b k i z in ((own (step b (f (middleOf b))) (v .0), v .1), within (k .0) (v .0))
+
+  pub bisection-nested : (s : Bracket) → Start f s → (limit : ℕ) → Nested f (bisectionBrackets width f s limit)
+  unfolding bisectionBrackets
+  bisection-nested s g limit = subst (Nested f) (map-id (statesFrom (next width f) limit s 0)) (nested f (λ b. b) (next width f) (λ b. Kept f b b) (λ b k. signed (k .0) (inl (k .1))) inward limit s 0 (started g, g .opposite))
+
+  -- ---- what an outcome owes
+  module _ (s : Bracket) (d : T (double width)) (g : Start f s) where
+    turn-owes : (b : Bracket) (n : ℕ) → Kept f s b → Hands (BisectionOwes width f s) (Kept f s) (next width f b n)
+    turn-owes b n k = by (rule b n)
+      where
+        by : {t : Go Outcome Bracket} → Rule b n t → Hands (BisectionOwes width f s) (Kept f s) t
+        by outside-now = (inr (inr refl), within (started g) (k .0))
+        by spoilt-now = (inl refl, within (started g) (k .0))
+        by (small-now p) = of-true p
+        by (narrow-now i t) = enclosed (started g) (k .0) (k .1) (middled f s b (k .0) i) (thin f s b (k .0) width d t)
+        by (next-now i z) = kept f s b k i z
+
+    pub bisection-owes : (limit : ℕ) → BisectionOwes width f s (bisection width f s limit)
+    unfolding bisection
+    bisection-owes limit =
+        keeps (next width f) spent (BisectionOwes width f s) (Kept f s) turn-owes (λ b n k. unfold spent in (inr (inl refl), within (started g) (k .0))) limit s 0 (started g, g .opposite)

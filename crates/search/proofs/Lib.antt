@@ -1,0 +1,12 @@
+pub mod Runs
+pub mod Magnitude
+pub mod Residuals
+pub mod Tolerance
+pub mod Places
+pub mod BisectionRuns
+pub mod BrentRuns
+pub mod Searches
+pub mod Patience
+pub mod Limit
+pub mod Readings
+pub mod Millionth

@@ -1,0 +1,88 @@
+-- Demand 3 in document 01's words, for any residual function f: what the brackets of a run keep, and what an outcome owes. Distances are exact, in units of 2 ^ -1074. Definitions only.
+use Prim.Native.Nat.{ℕ, _*_, _<_}
+use mathlib.Core.Path.{_≡_}
+use mathlib.Core.Logic.{_⊎_}
+use mathlib.Core.Bool.{true}
+use mathlib.Core.List.{List, [], _∷_}
+use lib.Dec.{T}
+use lib.Ieee.{Float, binary64, fits, lt, le, eq}
+use lib.Ieee.Positive.{positive}
+use Rattle.exact.specs.Value.{inUnits}
+use Rattle.exact.specs.Rounding.{apart}
+use Rattle.float.specs.Sign.{nought, magnitude}
+use Rattle.search.specs.Bisection.{small}
+use Rattle.search.specs.Brent.{tolerance}
+use Rattle.search.specs.declared.bracket.Bracket.{Bracket}
+use Rattle.search.specs.declared.bracket.Outcome.{Outcome}
+use Rattle.search.specs.declared.bracket.Outcome.the-variants.{ExactEnd, SmallResidual, Narrow, Refused}
+
+-- ---- signs, compared with zero
+abbrev pub Opposite : Float → Float → Type 0
+Opposite a b = (T (lt a nought) × T (lt nought b)) ⊎ (T (lt nought a) × T (lt b nought))
+
+abbrev pub Zero : Float → Type 0
+Zero r = eq r nought ≡ true
+
+-- ---- a bracket that demand 3 speaks of: doubles above zero, lower below upper, the residuals those of f and strictly opposite
+pub record Start (f : Float → Float) (b : Bracket) : Type 0 where
+  pub lower : T (positive (b .x1))
+  pub upper : T (positive (b .x2))
+  pub lower-fits : T (fits binary64 (b .x1))
+  pub upper-fits : T (fits binary64 (b .x2))
+  pub order : T (lt (b .x1) (b .x2))
+  pub lower-at : b .r1 ≡ f (b .x1)
+  pub upper-at : b .r2 ≡ f (b .x2)
+  pub opposite : Opposite (b .r1) (b .r2)
+
+-- ---- the brackets of a run
+-- c's ends lie between b's
+pub record Within (c b : Bracket) : Type 0 where
+  pub from-lower : T (le (b .x1) (c .x1))
+  pub to-upper : T (le (c .x2) (b .x2))
+
+-- the residuals are those of f, and opposite, or one of them is zero
+pub record Signed (f : Float → Float) (b : Bracket) : Type 0 where
+  pub lower-at : b .r1 ≡ f (b .x1)
+  pub upper-at : b .r2 ≡ f (b .x2)
+  pub signs : Opposite (b .r1) (b .r2) ⊎ Zero (b .r1) ⊎ Zero (b .r2)
+
+-- every bracket lies within the one before, with residuals opposite or one zero
+abbrev pub Nested : (Float → Float) → List Bracket → Type 0
+Nested f [] = Prim.Unit {0}
+Nested f (b ∷ []) = Signed f b
+Nested f (b ∷ (c ∷ rest)) = Signed f b × Within c b × Nested f (c ∷ rest)
+
+-- ---- what an answer owes
+-- two points of opposite residual, both in the starting bracket s, enclose v, each exactly nearer to it than `near` units
+pub record Enclosed (f : Float → Float) (s b : Bracket) (v : Float) (near : ℕ) : Type 0 where
+  pub inside : Within b s
+  pub above-lower : T (le (b .x1) v)
+  pub below-upper : T (le v (b .x2))
+  pub signs : Opposite (f (b .x1)) (f (b .x2))
+  pub near-lower : apart (inUnits v) (inUnits (b .x1)) < near
+  pub near-upper : apart (inUnits v) (inUnits (b .x2)) < near
+
+-- a refusal of the steps: by the table, its bracket inside the start
+abbrev pub Stopped : ℕ → Bracket → Bracket → Type 0
+Stopped number b s = ((number ≡ 6) ⊎ (number ≡ 8) ⊎ (number ≡ 10)) × Within b s
+
+-- of a run that starts at s: `Small` of the residual where the reason is a small residual, `near` the distance where it is narrow
+abbrev pub Owes : (Float → Type 0) → (Float → ℕ) → (Float → Float) → Bracket → Outcome → Type 0
+Owes Small near f s (ExactEnd v b) = ⊥
+Owes Small near f s (SmallResidual v n b) = Small (f v)
+Owes Small near f s (Narrow v n b) = Enclosed f s b v (near v)
+Owes Small near f s (Refused number v n b) = Stopped number b s
+
+-- bisection: a residual under 1.0e-8 in magnitude, or nearer than the width; Brent: a zero, or nearer than three times its own tolerance
+abbrev pub BisectionOwes : Float → (Float → Float) → Bracket → Outcome → Type 0
+BisectionOwes width f s o = Owes (λ r. T (lt (magnitude r) small)) (λ v. inUnits width) f s o
+
+abbrev pub BrentOwes : (Float → Float) → Bracket → Outcome → Type 0
+BrentOwes f s o = Owes Zero (λ v. 3 * inUnits (tolerance v)) f s o
+
+-- ---- a whole search from its two ends, `ends f low high`: an end that is an exact zero, a refusal of the opening (5, 6, 7), or what its run owes
+abbrev pub SearchOwes : (Outcome → Type 0) → (Float → Float) → Bracket → Outcome → Type 0
+SearchOwes Run f s (ExactEnd v b) = ((v ≡ s .x1) ⊎ (v ≡ s .x2)) × Zero (f v) × (b ≡ s)
+SearchOwes Run f s (SmallResidual v n b) = Run (SmallResidual v n b)
+SearchOwes Run f s (Narrow v n b) = Run (Narrow v n b)
+SearchOwes Run f s (Refused number v n b) = (number ≡ 5) ⊎ (number ≡ 7) ⊎ ((number ≡ 6) × (b ≡ s)) ⊎ Run (Refused number v n b)

@@ -1,0 +1,6 @@
+pub mod Run
+pub mod Bracket
+pub mod Bisection
+pub mod Brent
+pub mod Search
+pub mod Demand
