@@ -1,0 +1,39 @@
+-- `pairs::ends::p2Tmin_reg2` meets its contract: the definition, case by case. Assumes nothing.
+use lib.Ieee.{ofBits}
+use Rattle.float.specs.Decimal.{rounded}
+use Rattle.pairs.specs.Pairs.{T-least-2}
+use borrow.Author.Needs.{needs}
+use Rattle.pairs.proofs.ends.p2Tmin_reg2.Statement.{statement}
+use Rattle.pairs.proofs.ends.p2Tmin_reg2.Tie as tie
+
+returns : tie.Need-returns
+unfolding T-least-2 rounded ofBits
+returns c = rw (c .if1 .taken)
+
+p-saturation-formula-requires : tie.Need-p-saturation-formula-requires
+p-saturation-formula-requires c κs = search needs
+
+T-saturation-formula-requires : tie.Need-T-saturation-formula-requires
+T-saturation-formula-requires c κs = search needs
+
+returns-2 : tie.Need-returns-2
+unfolding T-least-2 rounded ofBits
+returns-2 c = rw (c .before .before .before .if1 .left, ← c .before .before .p-saturation-formula .ensures, c .before .if2 .taken, ← c .T-saturation-formula .ensures)
+
+B23-p2T-requires : tie.Need-B23-p2T-requires
+B23-p2T-requires c κs = search needs
+
+returns-3 : tie.Need-returns-3
+unfolding T-least-2 rounded ofBits
+returns-3 c = rw (c .before .before .before .if1 .left, ← c .before .before .p-saturation-formula .ensures, c .before .if2 .left, ← c .B23-p2T .ensures)
+
+pub p2Tmin-reg2-spec : {M : Type 1} → statement M
+p2Tmin-reg2-spec =
+    tie.close
+    (tie.spec
+    returns
+    p-saturation-formula-requires
+    T-saturation-formula-requires
+    returns-2
+    B23-p2T-requires
+    returns-3)

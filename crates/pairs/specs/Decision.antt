@@ -1,0 +1,11 @@
+-- A decision list: rows in document 01's order, each a test and what is given if it holds and no earlier one does.
+use mathlib.Core.Bool.{Bool, cond}
+use mathlib.Core.List.{List, [], _∷_}
+
+pub data Row (A : Type 0) : Type 0 where
+  _⇒_ : Bool → A → Row A
+
+infixl 20 _⇒_
+abbrev pub decided : {A : Type 0} → List (Row A) → A → A
+decided [] rest = rest
+decided ((test ⇒ a) ∷ rows) rest = cond test a (decided rows rest)

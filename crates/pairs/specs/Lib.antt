@@ -1,0 +1,3 @@
+pub mod Decision
+pub mod Residual
+pub mod Pairs
