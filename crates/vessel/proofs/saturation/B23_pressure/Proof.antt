@@ -1,0 +1,21 @@
+-- `vessel::saturation::B23_pressure` meets its contract: it is the definition. Assumes nothing.
+use Rattle.vessel.specs.Calls.{B23-pressure}
+use borrow.Author.Needs.{needs}
+use Rattle.vessel.proofs.saturation.B23_pressure.Statement.{statement}
+use Rattle.vessel.proofs.saturation.B23_pressure.Tie as tie
+
+B23-T2p-requires : tie.Need-B23-T2p-requires
+B23-T2p-requires c κs = search needs
+
+checked-requires : tie.Need-checked-requires
+checked-requires c κs = search needs
+
+line-requires : tie.Need-line-requires
+line-requires c κs = search needs
+
+returns : tie.Need-returns
+unfolding B23-pressure
+returns c = rw (← c .before .before .B23-T2p .ensures, ← c .before .checked .ensures, ← c .line .ensures)
+
+pub B23-pressure-spec : {M : Type 1} → statement M
+B23-pressure-spec = tie.close (tie.spec B23-T2p-requires checked-requires line-requires returns)

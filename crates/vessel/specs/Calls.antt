@@ -1,0 +1,57 @@
+-- The calls that do not search: a property by (p,T), the saturation line and B23.
+use mathlib.Core.Bool.{not}
+use mathlib.Core.List.{[], _∷_}
+use lib.Dec.{eqb}
+use lib.Ieee.{Float}
+use lib.Ieee.Scale.{finite}
+use Rattle.common.specs.Boundaries.{B23-p, B23-T, checked}
+use Rattle.common.specs.declared.boundaries.Range.the-variants.{T23, P23}
+use Rattle.r1.specs.Region1 as region1
+use Rattle.r2.specs.Region2 as region2
+use Rattle.r4.specs.Saturation.{saturationPressureAt, saturationTemperatureAt}
+use Rattle.pairs.specs.Decision.{_⇒_, decided}
+use Rattle.vessel.specs.Answer.{refused, line}
+use Rattle.vessel.specs.Range.{refusal}
+use Rattle.vessel.specs.declared.answer.Answer.{Answer}
+use Rattle.vessel.specs.declared.answer.Answer.the-variants.{Value}
+use Rattle.vessel.specs.declared.range.Region.{Region}
+use Rattle.vessel.specs.declared.range.Region.the-variants.{One, Two}
+use Rattle.vessel.specs.declared.property.Property.{Property}
+use Rattle.vessel.specs.declared.property.Property.the-variants.{Volume, InternalEnergy, Entropy, Enthalpy, Cp, Cv, SpeedOfSound}
+
+-- ---- a property: the (p,T) rule, then 9 for a result that is not finite
+unfoldable pub formula : Region → Property → Float → Float → Float
+formula One Volume p T = region1.pT2v p T
+formula One InternalEnergy p T = region1.pT2u p T
+formula One Entropy p T = region1.pT2s p T
+formula One Enthalpy p T = region1.pT2h p T
+formula One Cp p T = region1.pT2cp p T
+formula One Cv p T = region1.pT2cv p T
+formula One SpeedOfSound p T = region1.pT2w p T
+formula Two Volume p T = region2.pT2v p T
+formula Two InternalEnergy p T = region2.pT2u p T
+formula Two Entropy p T = region2.pT2s p T
+formula Two Enthalpy p T = region2.pT2h p T
+formula Two Cp p T = region2.pT2cp p T
+formula Two Cv p T = region2.pT2cv p T
+formula Two SpeedOfSound p T = region2.pT2w p T
+
+unfoldable pub property : Region → Property → Float → Float → Answer
+property region q p T =
+    decided
+    ((not (eqb (refusal region p T) 0) ⇒ refused (refusal region p T))
+    ∷ ((not (finite (formula region q p T)) ⇒ refused 9) ∷ []))
+    (Value (formula region q p T))
+
+-- ---- the lines: 1, then 2 or 3, then 9
+unfoldable pub saturation-pressure : Float → Answer
+saturation-pressure T = line (saturationPressureAt T)
+
+unfoldable pub saturation-temperature : Float → Answer
+saturation-temperature p = line (saturationTemperatureAt p)
+
+unfoldable pub B23-pressure : Float → Answer
+B23-pressure T = line (checked 2 T23 T (B23-p T))
+
+unfoldable pub B23-temperature : Float → Answer
+B23-temperature p = line (checked 3 P23 p (B23-T p))

@@ -1,0 +1,98 @@
+// What a call answers: a value with its reason, or a refusal with its number and bracket.
+ghost use mathlib.Core.Path.{_≡_};
+ghost use Rattle.vessel.specs.Answer.{refused as refusedOf, line as lineOf, bracketed as bracketedOf, answered as answeredOf, valueOf};
+use common::boundaries::Boundary;
+use search::bracket::Bracket;
+use search::bracket::Outcome;
+
+// A value that a search found: its steps, the bracket at its test, and whether the (p,T) rule has it inside.
+pub struct Found {
+    pub value: f64,
+    pub steps: u32,
+    pub lower: f64,
+    pub upper: f64,
+    pub inside: bool,
+}
+
+// A number of document 01's table, the last point for 8 and else 0, the steps taken and the last bracket.
+pub struct Refusal {
+    pub number: u32,
+    pub value: f64,
+    pub steps: u32,
+    pub lower: f64,
+    pub upper: f64,
+}
+
+pub enum Answer {
+    // of a call that does not search
+    Value(f64),
+    ExactEnd(Found),
+    SmallResidual(Found),
+    Narrow(Found),
+    Refused(Refusal),
+}
+
+// A refusal without steps.
+pub fn refused(number: u32) -> Answer
+    ensures { λ r. ⌜ r ≡ refusedOf number ⌝ }
+{
+    Answer::Refused(Refusal {
+        number,
+        value: 0.0,
+        steps: 0,
+        lower: 0.0,
+        upper: 0.0,
+    })
+}
+
+// What a boundary answers, as an answer.
+pub fn line(boundary: Boundary) -> Answer
+    ensures { λ r. ⌜ r ≡ lineOf boundary ⌝ }
+{
+    match boundary {
+        Boundary::At(x) => Answer::Value(x),
+        Boundary::Refused(n) => refused(n),
+    }
+}
+
+// The value that an outcome carries.
+pub fn value(outcome: Outcome) -> f64
+    ensures { λ r. ⌜ r ≡ valueOf outcome ⌝ }
+{
+    match outcome {
+        Outcome::ExactEnd(x, b) => x,
+        Outcome::SmallResidual(x, n, b) => x,
+        Outcome::Narrow(x, n, b) => x,
+        Outcome::Refused(k, x, n, b) => x,
+    }
+}
+
+fn bracketed(value: f64, steps: u32, b: Bracket, inside: bool) -> Found
+    ensures { λ r. ⌜ r ≡ bracketedOf value steps b inside ⌝ }
+{
+    Found {
+        value,
+        steps,
+        lower: b.x1,
+        upper: b.x2,
+        inside,
+    }
+}
+
+// An outcome of a search as an answer, with the mark of its value.
+pub fn answered(outcome: Outcome, mark: bool) -> Answer
+    ensures { λ r. ⌜ r ≡ answeredOf outcome mark ⌝ }
+{
+    match outcome {
+        Outcome::ExactEnd(x, b) => Answer::ExactEnd(bracketed(x, 0, b, mark)),
+        Outcome::SmallResidual(x, n, b) => Answer::SmallResidual(bracketed(x, n, b, mark)),
+        Outcome::Narrow(x, n, b) => Answer::Narrow(bracketed(x, n, b, mark)),
+        Outcome::Refused(k, x, n, b) => Answer::Refused(Refusal {
+            number: k,
+            value: x,
+            steps: n,
+            lower: b.x1,
+            upper: b.x2,
+        }),
+    }
+}

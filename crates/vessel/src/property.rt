@@ -1,0 +1,86 @@
+// A property by (p,T).
+ghost use mathlib.Core.Path.{_≡_};
+ghost use Rattle.vessel.specs.Calls.{formula as formulaOf, property as propertyOf};
+use crate::answer::Answer;
+use crate::answer::refused;
+use crate::range::Region;
+use crate::range::refusal;
+use float::sign::is_finite;
+use r1::region1_pT::pT2cp_reg1;
+use r1::region1_pT::pT2cv_reg1;
+use r1::region1_pT::pT2h_reg1;
+use r1::region1_pT::pT2s_reg1;
+use r1::region1_pT::pT2u_reg1;
+use r1::region1_pT::pT2v_reg1;
+use r1::region1_pT::pT2w_reg1;
+use r2::region2_pT::pT2cp_reg2;
+use r2::region2_pT::pT2cv_reg2;
+use r2::region2_pT::pT2h_reg2;
+use r2::region2_pT::pT2s_reg2;
+use r2::region2_pT::pT2u_reg2;
+use r2::region2_pT::pT2v_reg2;
+use r2::region2_pT::pT2w_reg2;
+
+// v in m^3/kg, u and h in kJ/kg, s, cp and cv in kJ/(kg K), w in m/s.
+pub enum Property {
+    Volume,
+    InternalEnergy,
+    Entropy,
+    Enthalpy,
+    Cp,
+    Cv,
+    SpeedOfSound,
+}
+
+fn formula_1(property: Property, p: f64, T: f64) -> f64
+    ensures { λ r. ⌜ r ≡ formulaOf Region.One property p T ⌝ }
+{
+    match property {
+        Property::Volume => pT2v_reg1(p, T),
+        Property::InternalEnergy => pT2u_reg1(p, T),
+        Property::Entropy => pT2s_reg1(p, T),
+        Property::Enthalpy => pT2h_reg1(p, T),
+        Property::Cp => pT2cp_reg1(p, T),
+        Property::Cv => pT2cv_reg1(p, T),
+        Property::SpeedOfSound => pT2w_reg1(p, T),
+    }
+}
+
+fn formula_2(property: Property, p: f64, T: f64) -> f64
+    ensures { λ r. ⌜ r ≡ formulaOf Region.Two property p T ⌝ }
+{
+    match property {
+        Property::Volume => pT2v_reg2(p, T),
+        Property::InternalEnergy => pT2u_reg2(p, T),
+        Property::Entropy => pT2s_reg2(p, T),
+        Property::Enthalpy => pT2h_reg2(p, T),
+        Property::Cp => pT2cp_reg2(p, T),
+        Property::Cv => pT2cv_reg2(p, T),
+        Property::SpeedOfSound => pT2w_reg2(p, T),
+    }
+}
+
+// The region's formula, with no check of the range.
+fn formula(region: Region, property: Property, p: f64, T: f64) -> f64
+    ensures { λ r. ⌜ r ≡ formulaOf region property p T ⌝ }
+{
+    match region {
+        Region::One => formula_1(property, p, T),
+        Region::Two => formula_2(property, p, T),
+    }
+}
+
+// A property of the named region at (p,T).
+pub fn pT(region: Region, property: Property, p: f64, T: f64) -> Answer
+    ensures { λ r. ⌜ r ≡ propertyOf region property p T ⌝ }
+{
+    let number = refusal(region, p, T);
+    if number != 0 {
+        return refused(number);
+    }
+    let result = formula(region, property, p, T);
+    if !is_finite(result) {
+        return refused(9);
+    }
+    Answer::Value(result)
+}
