@@ -1,7 +1,6 @@
 -- A pair's decision list is what the code does: it takes the two ends apart, opens the bracket, and searches it. By cases on the tests. Assumes nothing.
 use mathlib.Core.Path.{_≡_, refl}
 use mathlib.Core.Bool.{Bool, true, false, cond, not, _&&_}
-use mathlib.Core.List.{[], _∷_}
 use Prim.Native.Nat.{ℕ}
 use lib.Ieee.{Float, lt, eq}
 use lib.Ieee.Scale.{finite}
@@ -14,9 +13,9 @@ use Rattle.search.specs.declared.bracket.Bracket.{Bracket}
 use Rattle.search.specs.declared.bracket.Outcome.{Outcome}
 use Rattle.search.specs.declared.bracket.Outcome.the-variants.{ExactEnd, Refused}
 use Rattle.search.specs.declared.bracket.Opening.the-variants.{Closed, Open}
-use Rattle.pairs.specs.Decision.{_⇒_, decided}
+use Rattle.pairs.specs.Decision.{decided}
 use Rattle.pairs.specs.Residual.{residual}
-use Rattle.pairs.specs.Pairs.{lowerEnd, upperEnd, steps, start, pair}
+use Rattle.pairs.specs.Pairs.{lowerEnd, upperEnd, steps, start, openingRows, pair}
 use Rattle.pairs.specs.declared.equation.Equation.{Equation}
 
 -- an end taken apart: leave at once on a refusal
@@ -33,15 +32,7 @@ both-ends low high search = pick (finite low) (finite high)
     pick true false = refl
     pick false b = refl
 
-opening : (w : Bracket) (run : Bracket → Outcome)
-    → decided
-    ((not (lt (w .x1) (w .x2)) ⇒ refused 5)
-    ∷ ((not (finite (w .r1) && finite (w .r2)) ⇒ Refused 6 nought 0 w)
-    ∷ ((eq (w .r1) nought ⇒ ExactEnd (w .x1) w)
-    ∷ ((eq (w .r2) nought ⇒ ExactEnd (w .x2) w)
-    ∷ ((sameSign (w .r1) (w .r2) ⇒ refused 7) ∷ [])))))
-    (run w)
-    ≡ searched run (opened w)
+pub opening : (w : Bracket) (run : Bracket → Outcome) → decided (openingRows w) (run w) ≡ searched run (opened w)
 unfolding opened
 opening w run = pick (lt (w .x1) (w .x2)) (finite (w .r1) && finite (w .r2)) (eq (w .r1) nought) (eq (w .r2) nought) (sameSign (w .r1) (w .r2))
   where

@@ -73,15 +73,17 @@ steps (Ts2 T s) b limit = zbrent (residual (Ts2 T s)) b limit
 abbrev pub start : Equation → Bracket
 start e = ends (residual e) (lowerEnd e) (upperEnd e)
 
+abbrev pub openingRows : Bracket → List (Row Outcome)
+openingRows w =
+    (not (lt (w .x1) (w .x2)) ⇒ refused 5)
+    ∷ ((not (finite (w .r1) && finite (w .r2)) ⇒ Refused 6 nought 0 w)
+    ∷ ((eq (w .r1) nought ⇒ ExactEnd (w .x1) w)
+    ∷ ((eq (w .r2) nought ⇒ ExactEnd (w .x2) w)
+    ∷ ((sameSign (w .r1) (w .r2) ⇒ refused 7)
+    ∷ []))))
+
 abbrev pub beforeSteps : Equation → List (Row Outcome)
-beforeSteps e =
-    (not (finite (lowerEnd e) && finite (upperEnd e)) ⇒ refused 9)
-    ∷ ((not (lt (lowerEnd e) (upperEnd e)) ⇒ refused 5)
-    ∷ ((not (finite (residual e (lowerEnd e)) && finite (residual e (upperEnd e))) ⇒ Refused 6 nought 0 (start e))
-    ∷ ((eq (residual e (lowerEnd e)) nought ⇒ ExactEnd (lowerEnd e) (start e))
-    ∷ ((eq (residual e (upperEnd e)) nought ⇒ ExactEnd (upperEnd e) (start e))
-    ∷ ((sameSign (residual e (lowerEnd e)) (residual e (upperEnd e)) ⇒ refused 7)
-    ∷ [])))))
+beforeSteps e = (not (finite (lowerEnd e) && finite (upperEnd e)) ⇒ refused 9) ∷ openingRows (start e)
 
 -- the outcome of a pair, whatever its inputs
 unfoldable pub pair : Equation → ℕ → Outcome

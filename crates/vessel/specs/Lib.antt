@@ -2,3 +2,5 @@ pub mod Answer
 pub mod Range
 pub mod Calls
 pub mod Searches
+pub mod Table
+pub mod Demand

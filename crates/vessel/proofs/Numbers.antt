@@ -1,0 +1,65 @@
+-- Document 01's table of refusals over the decision lists: each number is given exactly when its row holds and no earlier one does; a call has one outcome. Assumes nothing.
+use Prim.Native.Nat.{ℕ}
+use mathlib.Core.Path.{_≡_, refl, sym, _∙_}
+use mathlib.Core.Logic.{inl, inr}
+use mathlib.Core.Bool.{Bool, true, false, not}
+use mathlib.Core.List.{List, [], _∷_}
+use lib.Dec.{eqb}
+use lib.Ieee.{Float}
+use lib.Ieee.Scale.{finite}
+use Rattle.search.specs.declared.bracket.Outcome.{Outcome}
+use Rattle.search.specs.declared.bracket.Outcome.the-variants.{ExactEnd, SmallResidual, Narrow, Refused}
+use Rattle.pairs.specs.Decision.{Row, _⇒_, decided}
+use Rattle.pairs.specs.Pairs.{steps, start}
+use Rattle.pairs.specs.declared.equation.Equation.{Equation}
+use Rattle.vessel.specs.Answer.{refused, answered, valueOf}
+use Rattle.vessel.specs.Range.{rule, refusal}
+use Rattle.vessel.specs.Calls.{formula, property}
+use Rattle.vessel.specs.Searches.{checks, outcome, mark, search as searchOf}
+use Rattle.vessel.specs.Table.{Given, Exactly, numberOf, numberIn}
+use Rattle.vessel.specs.declared.answer.Answer.the-variants.{Value}
+use Rattle.vessel.specs.declared.range.Region.{Region}
+use Rattle.vessel.specs.declared.property.Property.{Property}
+
+-- ---- over any list
+module _ {A : Type 0} (number : A → ℕ) (n : ℕ) where
+  only-if : (rows : List (Row A)) (rest : A) → number (decided rows rest) ≡ n → Given number n rows rest
+  only-if [] rest h = h
+  only-if ((true ⇒ a) ∷ rows) rest h = inl (refl, h)
+  only-if ((false ⇒ a) ∷ rows) rest h = inr (refl, only-if rows rest h)
+
+  whenever : (rows : List (Row A)) (rest : A) → Given number n rows rest → number (decided rows rest) ≡ n
+  whenever [] rest h = h
+  whenever ((test ⇒ a) ∷ rows) rest (inl (t, h)) = rw t h
+  whenever ((test ⇒ a) ∷ rows) rest (inr (t, h)) = rw t (whenever rows rest h)
+
+  pub exactly : (rows : List (Row A)) (rest : A) → Exactly number (number (decided rows rest)) n rows rest
+  exactly rows rest = record { only-if = only-if rows rest; whenever = whenever rows rest }
+
+-- ---- the calls
+-- a search: the number in its columns
+number-kept : (o : Outcome) (inside : Bool) → numberOf (answered o inside) ≡ numberIn o
+unfolding answered
+number-kept (ExactEnd x b) inside = refl
+number-kept (SmallResidual x n b) inside = refl
+number-kept (Narrow x n b) inside = refl
+number-kept (Refused k x n b) inside = refl
+
+pub search-number : (e : Equation) (limit n : ℕ) → Exactly numberIn (numberOf (searchOf e limit)) n (checks e limit) (steps e (start e) limit)
+unfolding searchOf outcome
+search-number e limit n = rw (number-kept (outcome e limit) (mark e (valueOf (outcome e limit)))) (exactly numberIn n (checks e limit) (steps e (start e) limit))
+
+-- the (p,T) rule
+pub rule-number : (region : Region) (p T : Float) (n : ℕ) → Exactly (λ k. k) (refusal region p T) n (rule region p T) 0
+unfolding refusal
+rule-number region p T n = exactly (λ k. k) n (rule region p T) 0
+
+-- a property: the rule's number, then 9
+pub property-number : (region : Region) (q : Property) (p T : Float) (n : ℕ)
+    → Exactly numberOf (numberOf (property region q p T)) n ((not (eqb (refusal region p T) 0) ⇒ refused (refusal region p T)) ∷ ((not (finite (formula region q p T)) ⇒ refused 9) ∷ [])) (Value (formula region q p T))
+unfolding property
+property-number region q p T n = exactly numberOf n _ (Value (formula region q p T))
+
+-- ---- two outcomes that satisfy a call's statement are the same
+pub one-outcome : {A : Type 0} (stated a b : A) → a ≡ stated → b ≡ stated → a ≡ b
+one-outcome stated a b h k = h ∙ sym k
