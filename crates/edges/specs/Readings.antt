@@ -1,19 +1,36 @@
 -- Document 01's readings at the edges that are marked *, as one table. proofs/Readings.antt is the one theorem that covers it.
 use Prim.Native.Nat.{ℕ}
 use mathlib.Core.Path.{_≡_}
-use mathlib.Core.Bool.{true}
+use mathlib.Core.Bool.{Bool, true}
 use mathlib.Core.List.{List, [], _∷_}
-use lib.Ieee.{Float, nan}
+use lib.Dec.{T}
+use lib.Ieee.{Float, nan, binary64, lt, eq, ofBits}
+use Rattle.exact.specs.Operations.{_⊗_}
 use Rattle.float.specs.Decimal.{+_, −_, number, rounded}
 use Rattle.float.specs.Power.{wholePower}
 use Rattle.float.specs.Root.{squareRoot, fourthRoot}
+use Rattle.float.specs.Sign.{nought, sameSign}
+use Rattle.common.specs.Constant.{T-623}
+use Rattle.search.specs.Bisection.{step}
+use Rattle.vessel.specs.Range.{refusal}
+use Rattle.vessel.specs.Calls.{property}
+use Rattle.vessel.specs.Table.{numberOf}
+use Rattle.vessel.specs.declared.range.Region.the-variants.{One, Two}
+use Rattle.vessel.specs.declared.property.Property.the-variants.{Volume}
 
 -- the reading's number, what is found, and what document 01 says
 pub data Reading : Type 0 where
   double : ℕ → Float → Float → Reading
+  truth : ℕ → Bool → Bool → Reading
+  given : ℕ → ℕ → ℕ → Reading
+  -- from x1 to x2, a residual below zero at x1 and above zero at the middle: the next bracket, whatever the residuals
+  next : ℕ → Float → Float → Float → Float → Reading
 
 abbrev pub Holds : Reading → Type 0
 Holds (double n found said) = found ≡ said
+Holds (truth n found said) = found ≡ said
+Holds (given n found said) = found ≡ said
+Holds (next n x1 x2 lower upper) = (r1 r2 r : Float) → T (lt r1 nought) → T (lt nought r) → step (record { x1 = x1; x2 = x2; r1 = r1; r2 = r2 }) r ≡ record { x1 = lower; x2 = upper; r1 = r1; r2 = r }
 
 abbrev pub AllHold : List Reading → Type 0
 AllHold [] = Prim.Unit {0}
@@ -26,6 +43,14 @@ plain d = rounded (number d (+ 0))
 abbrev pub minus : ℕ → Float
 minus d = rounded (record { sign = true; digits = d; exponent = + 0 })
 
+-- 1.0e-200
+abbrev pub tiny : Float
+tiny = rounded (number 1 (− 200))
+
+-- the double above 623.15
+abbrev pub above-623 : Float
+above-623 = ofBits binary64 0x4083_7933_3333_3334
+
 unfoldable pub table : List Reading
 table =
     double 1 (wholePower (plain 2) (− 3)) (rounded (number 125 (− 3)))
@@ -35,4 +60,12 @@ table =
     ∷ double 5 (squareRoot (rounded (number 225 (− 2)))) (rounded (number 15 (− 1)))
     ∷ double 6 (squareRoot (minus 1)) nan
     ∷ double 7 (fourthRoot (rounded (number 625 (− 4)))) (rounded (number 5 (− 1)))
+    ∷ truth 8 (sameSign tiny tiny) true
+    ∷ truth 8 (eq (tiny ⊗ tiny) nought) true
+    ∷ next 9 (plain 1) (plain 4) (plain 1) (rounded (number 25 (− 1)))
+    ∷ given 10 (numberOf (property Two Volume (plain 0) (plain 300))) 3
+    ∷ given 11 (numberOf (property One Volume (plain 0) nan)) 1
+    ∷ given 11 (numberOf (property Two Volume (plain 0) nan)) 1
+    ∷ given 12 (refusal One (plain 100) T-623) 0
+    ∷ given 12 (numberOf (property One Volume (plain 100) above-623)) 2
     ∷ []

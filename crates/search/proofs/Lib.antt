@@ -8,5 +8,4 @@ pub mod BrentRuns
 pub mod Searches
 pub mod Patience
 pub mod Limit
-pub mod Readings
 pub mod Millionth
