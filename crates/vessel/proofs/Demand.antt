@@ -1,11 +1,12 @@
 -- Demand 3 for each call: any search between ends above zero keeps its brackets nested and its signs opposite, and its answer owes what `Owes` says. Once for every pair, then by the name of each call. Assumes nothing.
 use Prim.Native.Nat.{ℕ}
-use mathlib.Core.Path.{refl, ap}
+use mathlib.Core.Path.{_≡_, refl, ap}
 use mathlib.Core.Logic.{inl, inr}
 use mathlib.Core.Bool.{Bool, true, false, cond, not, _&&_}
 use lib.Dec.{T, leb}
 use lib.Ieee.{Float, fits}
 use lib.Ieee.Scale.{finite}
+use Rattle.common.specs.Constant.{p-least, p-most}
 use Rattle.search.specs.Search.{refused, opened, searched, ends, bisected, brented}
 use Rattle.exact.specs.Value.{double}
 use Rattle.float.specs.Decimal.{rounded}
@@ -93,7 +94,12 @@ pub owes : (e : Equation) → AboveZero e → (limit : ℕ) → Owes e (searchOf
 unfolding searchOf outcome
 owes e g limit = through e g limit (mark e (valueOf (outcome e limit))) (leb limit 20000) (finiteInputs e) (T-inRange e) (p-inRange e) (v-aboveZero e) (finite (lowerEnd e) && finite (upperEnd e))
 
--- ---- call by call
+-- ---- the ends that are constants are above zero
+constant-ends : (e : Equation) → lowerEnd e ≡ p-least → upperEnd e ≡ p-most → AboveZero e
+unfolding rounded fits
+constant-ends e low high = record { lower = rw low tt; upper = rw high tt; lower-fits = rw low tt; upper-fits = rw high tt }
+
+-- ---- call by call; (T,v) and (T,h) of region 2 have constant ends, so nothing is premised
 pub pv2T-owes-1 : (p v : Float) → AboveZero (Pv1 p v) → (limit : ℕ) → Owes (Pv1 p v) (pv2T One' p v limit)
 pv2T-owes-1 p v g limit = owes (Pv1 p v) g limit
 
@@ -103,14 +109,16 @@ pv2T-owes-2 p v g limit = owes (Pv2 p v) g limit
 pub Tv2p-owes-1 : (t v : Float) → AboveZero (Tv1 t v) → (limit : ℕ) → Owes (Tv1 t v) (Tv2p One t v limit)
 Tv2p-owes-1 t v g limit = owes (Tv1 t v) g limit
 
-pub Tv2p-owes-2 : (t v : Float) → AboveZero (Tv2 t v) → (limit : ℕ) → Owes (Tv2 t v) (Tv2p Two t v limit)
-Tv2p-owes-2 t v g limit = owes (Tv2 t v) g limit
+pub Tv2p-owes-2 : (t v : Float) (limit : ℕ) → Owes (Tv2 t v) (Tv2p Two t v limit)
+unfolding lowerEnd upperEnd
+Tv2p-owes-2 t v limit = owes (Tv2 t v) (constant-ends (Tv2 t v) refl refl) limit
 
 pub Th2p-owes-1 : (t h : Float) → AboveZero (Th1 t h) → (limit : ℕ) → Owes (Th1 t h) (Th2p One t h limit)
 Th2p-owes-1 t h g limit = owes (Th1 t h) g limit
 
-pub Th2p-owes-2 : (t h : Float) → AboveZero (Th2 t h) → (limit : ℕ) → Owes (Th2 t h) (Th2p Two t h limit)
-Th2p-owes-2 t h g limit = owes (Th2 t h) g limit
+pub Th2p-owes-2 : (t h : Float) (limit : ℕ) → Owes (Th2 t h) (Th2p Two t h limit)
+unfolding lowerEnd upperEnd
+Th2p-owes-2 t h limit = owes (Th2 t h) (constant-ends (Th2 t h) refl refl) limit
 
 pub Ts2p-owes-1 : (t s : Float) → AboveZero (Ts1 t s) → (limit : ℕ) → Owes (Ts1 t s) (Ts2p One t s limit)
 Ts2p-owes-1 t s g limit = owes (Ts1 t s) g limit
