@@ -4,3 +4,4 @@ pub mod Calls
 pub mod Searches
 pub mod Table
 pub mod Demand
+pub mod Readings

@@ -11,9 +11,9 @@ use Rattle.common.specs.Boundaries.{inside}
 use Rattle.r4.specs.Saturation.{saturationPressure}
 use Rattle.search.specs.Bisection.{step}
 use Rattle.search.proofs.Residuals.{unlike}
 use Rattle.vessel.specs.Range.{refusal}
 use Rattle.vessel.specs.Calls.{property}
-use Rattle.edges.specs.Readings.{AllHold, table}
+use Rattle.vessel.specs.Readings.{AllHold, table}
 
 pub readings : AllHold table
 unfolding table wholePower squareRoot fourthRoot rounded sameSign eq mul div step middle add property refusal inside saturationPressure le lt sub ofBits
