@@ -1,5 +1,8 @@
 //! What Climboat exports for comparing, wrapped once: no function of it asks anything of its caller.
+// without the original crate the equations and the searches have nothing to be compared with
+#![cfg_attr(not(feature = "original"), allow(dead_code))]
 
+#[allow(non_snake_case)]
 mod archive {
     extern "C" {
         pub fn float_abs(x: f64) -> f64;
@@ -29,6 +32,22 @@ mod archive {
         pub fn saturation_temperature(p: f64) -> f64;
         pub fn b23_pressure(t: f64) -> f64;
         pub fn b23_temperature(p: f64) -> f64;
+        pub fn pv2T_number(region: u32, p: f64, v: f64, limit: u32) -> u32;
+        pub fn pv2T_value(region: u32, p: f64, v: f64, limit: u32) -> f64;
+        pub fn pv2T_reason(region: u32, p: f64, v: f64, limit: u32) -> u32;
+        pub fn pv2T_steps(region: u32, p: f64, v: f64, limit: u32) -> u32;
+        pub fn Tv2p_number(region: u32, t: f64, v: f64, limit: u32) -> u32;
+        pub fn Tv2p_value(region: u32, t: f64, v: f64, limit: u32) -> f64;
+        pub fn Tv2p_reason(region: u32, t: f64, v: f64, limit: u32) -> u32;
+        pub fn Tv2p_steps(region: u32, t: f64, v: f64, limit: u32) -> u32;
+        pub fn Th2p_number(region: u32, t: f64, h: f64, limit: u32) -> u32;
+        pub fn Th2p_value(region: u32, t: f64, h: f64, limit: u32) -> f64;
+        pub fn Th2p_reason(region: u32, t: f64, h: f64, limit: u32) -> u32;
+        pub fn Th2p_steps(region: u32, t: f64, h: f64, limit: u32) -> u32;
+        pub fn Ts2p_number(region: u32, t: f64, s: f64, limit: u32) -> u32;
+        pub fn Ts2p_value(region: u32, t: f64, s: f64, limit: u32) -> f64;
+        pub fn Ts2p_reason(region: u32, t: f64, s: f64, limit: u32) -> u32;
+        pub fn Ts2p_steps(region: u32, t: f64, s: f64, limit: u32) -> u32;
     }
 }
 
@@ -69,4 +88,20 @@ wrapped! {
     saturation_temperature(p: f64) -> f64 = saturation_temperature;
     b23_pressure(t: f64) -> f64 = b23_pressure;
     b23_temperature(p: f64) -> f64 = b23_temperature;
+    pv_to_t_number(region: u32, p: f64, v: f64, limit: u32) -> u32 = pv2T_number;
+    pv_to_t_value(region: u32, p: f64, v: f64, limit: u32) -> f64 = pv2T_value;
+    pv_to_t_reason(region: u32, p: f64, v: f64, limit: u32) -> u32 = pv2T_reason;
+    pv_to_t_steps(region: u32, p: f64, v: f64, limit: u32) -> u32 = pv2T_steps;
+    tv_to_p_number(region: u32, t: f64, v: f64, limit: u32) -> u32 = Tv2p_number;
+    tv_to_p_value(region: u32, t: f64, v: f64, limit: u32) -> f64 = Tv2p_value;
+    tv_to_p_reason(region: u32, t: f64, v: f64, limit: u32) -> u32 = Tv2p_reason;
+    tv_to_p_steps(region: u32, t: f64, v: f64, limit: u32) -> u32 = Tv2p_steps;
+    th_to_p_number(region: u32, t: f64, h: f64, limit: u32) -> u32 = Th2p_number;
+    th_to_p_value(region: u32, t: f64, h: f64, limit: u32) -> f64 = Th2p_value;
+    th_to_p_reason(region: u32, t: f64, h: f64, limit: u32) -> u32 = Th2p_reason;
+    th_to_p_steps(region: u32, t: f64, h: f64, limit: u32) -> u32 = Th2p_steps;
+    ts_to_p_number(region: u32, t: f64, s: f64, limit: u32) -> u32 = Ts2p_number;
+    ts_to_p_value(region: u32, t: f64, s: f64, limit: u32) -> f64 = Ts2p_value;
+    ts_to_p_reason(region: u32, t: f64, s: f64, limit: u32) -> u32 = Ts2p_reason;
+    ts_to_p_steps(region: u32, t: f64, s: f64, limit: u32) -> u32 = Ts2p_steps;
 }

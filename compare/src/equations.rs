@@ -106,7 +106,7 @@ fn beside(draw: &mut Draw, x: f64) -> f64 {
     f64::from_bits(x.to_bits().wrapping_add(draw.below(7)).wrapping_sub(3))
 }
 
-fn region_1(draw: &mut Draw, kind: u64) -> (f64, f64) {
+pub fn region_1(draw: &mut Draw, kind: u64) -> (f64, f64) {
     if kind < 2 {
         let t = draw.between(273.15, 623.15);
         let least = p_saturation(t);
@@ -127,16 +127,18 @@ fn region_1(draw: &mut Draw, kind: u64) -> (f64, f64) {
     (p, t)
 }
 
-fn region_2(draw: &mut Draw, kind: u64) -> (f64, f64) {
-    let most = |t: f64| {
-        if t <= 623.15 {
-            p_saturation(t)
-        } else if t <= 863.15 {
-            B23_T2p(t)
-        } else {
-            100.0
-        }
-    };
+/// The highest pressure of region 2 at t.
+pub fn most(t: f64) -> f64 {
+    if t <= 623.15 {
+        p_saturation(t)
+    } else if t <= 863.15 {
+        B23_T2p(t)
+    } else {
+        100.0
+    }
+}
+
+pub fn region_2(draw: &mut Draw, kind: u64) -> (f64, f64) {
     if kind < 2 {
         let t = draw.between(273.15, 1073.15);
         let p = if kind == 0 { draw.between(1.0e-8, most(t)) } else { draw.logarithmic(1.0e-8, most(t)) };

@@ -1,10 +1,12 @@
-//! Climboat against Rust: `compare helpers` compares the float helpers, `compare equations` the equations with the original crate, `compare timing` prints the tables of docs/SPEED.md.
+//! Climboat against Rust: `compare helpers` compares the float helpers, `compare equations` the equations and `compare searches` the pair searches with the original crate, `compare timing` prints the tables of docs/SPEED.md.
 
 mod climboat;
 mod draw;
 #[cfg(feature = "original")]
 mod equations;
 mod helpers;
+#[cfg(feature = "original")]
+mod searches;
 mod tally;
 mod timing;
 
@@ -16,12 +18,14 @@ fn main() -> ExitCode {
         ["helpers"] => told(helpers::compare()),
         #[cfg(feature = "original")]
         ["equations"] => told(equations::compare()),
+        #[cfg(feature = "original")]
+        ["searches"] => told(searches::compare()),
         ["timing"] => {
             timing::tables();
             ExitCode::SUCCESS
         }
         _ => {
-            eprintln!("usage: compare helpers | equations | timing (equations where the original crate is at hand)");
+            eprintln!("usage: compare helpers | equations | searches | timing (equations and searches where the original crate is at hand)");
             ExitCode::from(2)
         }
     }

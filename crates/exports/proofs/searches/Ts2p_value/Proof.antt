@@ -1,0 +1,19 @@
+-- `exports::searches::Ts2p_value` meets its contract: it reads one column of the vessel's answer. Assumes nothing.
+use borrow.Author.Needs.{needs}
+use Rattle.exports.proofs.searches.Ts2p_value.Statement.{statement}
+use Rattle.exports.proofs.searches.Ts2p_value.Tie as tie
+
+region-of-requires : tie.Need-region-of-requires
+region-of-requires c κs = search needs
+
+Ts2p-requires : tie.Need-Ts2p-requires
+Ts2p-requires c κs = search needs
+
+value-requires : tie.Need-value-requires
+value-requires c κs = search needs
+
+returns : tie.Need-returns
+returns c = rw (← c .before .before .region-of .ensures, ← c .before .Ts2p .ensures) (c .value .ensures)
+
+pub Ts2p-value-spec : {M : Type 1} → statement M
+Ts2p-value-spec = tie.close (tie.spec region-of-requires Ts2p-requires value-requires returns)
