@@ -40,14 +40,14 @@ fn rule_a() {
         b"region 1, p NaN",
         pT(Region::One, Property::Enthalpy, 0.0 / 0.0, 300.0),
     );
-    answer(
-        b"region 1, p infinite",
-        pT(Region::One, Property::Enthalpy, 1.0 / 0.0, 300.0),
-    );
 }
 
 // Readings 10 to 12, and NaN, infinities, -0 and subnormals in each place of the (p,T) rule.
 fn rule_b() {
+    answer(
+        b"region 1, p infinite",
+        pT(Region::One, Property::Enthalpy, 1.0 / 0.0, 300.0),
+    );
     answer(
         b"region 2, T minus infinity",
         pT(Region::Two, Property::Entropy, 1.0, -1.0 / 0.0),
@@ -88,14 +88,14 @@ fn rule_T_a() {
         b"region 2, T = 273.15",
         pT(Region::Two, Property::Volume, 0.0001, 273.15),
     );
-    answer(
-        b"region 2, T = 273.15, the double above",
-        pT(Region::Two, Property::Volume, 0.0001, 273.15000000000003),
-    );
 }
 
 // The doubles next to every T limit of the (p,T) rule.
 fn rule_T_b() {
+    answer(
+        b"region 2, T = 273.15, the double above",
+        pT(Region::Two, Property::Volume, 0.0001, 273.15000000000003),
+    );
     answer(
         b"region 2, T = 623.15 at 16.5291642, the double below",
         pT(Region::Two, Property::Cp, 16.5291642, 623.1499999999999),
@@ -112,6 +112,10 @@ fn rule_T_b() {
         b"region 2, T = 863.15 at 100, the double below",
         pT(Region::Two, Property::Cv, 100.0, 863.1499999999999),
     );
+}
+
+// The doubles next to every T limit of the (p,T) rule.
+fn rule_T_c() {
     answer(
         b"region 2, T = 863.15 at 100",
         pT(Region::Two, Property::Cv, 100.0, 863.15),
@@ -120,10 +124,6 @@ fn rule_T_b() {
         b"region 2, T = 863.15 at 100, the double above",
         pT(Region::Two, Property::Cv, 100.0, 863.1500000000001),
     );
-}
-
-// The doubles next to every T limit of the (p,T) rule.
-fn rule_T_c() {
     answer(
         b"region 2, T = 1073.15, the double below",
         pT(Region::Two, Property::SpeedOfSound, 1.0, 1073.1499999999999),
@@ -170,6 +170,10 @@ fn rule_p_a() {
         b"region 2, p = 1.0e-8",
         pT(Region::Two, Property::Entropy, 1.0e-08, 300.0),
     );
+}
+
+// The doubles next to every p limit of the (p,T) rule.
+fn rule_p_b() {
     answer(
         b"region 2, p = 1.0e-8, the double above",
         pT(
@@ -179,10 +183,6 @@ fn rule_p_a() {
             300.0,
         ),
     );
-}
-
-// The doubles next to every p limit of the (p,T) rule.
-fn rule_p_b() {
     answer(
         b"region 2, p = 100 at 900 K, the double below",
         pT(Region::Two, Property::Enthalpy, 99.99999999999999, 900.0),
@@ -198,7 +198,7 @@ fn rule_p_b() {
 }
 
 // Reading 14, with the doubles next to both limits.
-fn reading14() {
+fn reading14_a() {
     answer(
         b"14: saturation temperature at 0.000611212677, the double below",
         saturation_temperature(0.0006112126769999999),
@@ -219,6 +219,10 @@ fn reading14() {
         b"14: saturation temperature at 22.064",
         saturation_temperature(22.064),
     );
+}
+
+// Reading 14, with the doubles next to both limits.
+fn reading14_b() {
     answer(
         b"14: saturation temperature at 22.064, the double above",
         saturation_temperature(22.064000000000004),
@@ -247,14 +251,14 @@ fn saturation_a() {
         b"saturation pressure at 647.096",
         saturation_pressure(647.096),
     );
-    answer(
-        b"saturation pressure at 647.096, the double above",
-        saturation_pressure(647.0960000000001),
-    );
 }
 
 // The saturation line at its limits.
 fn saturation_b() {
+    answer(
+        b"saturation pressure at 647.096, the double above",
+        saturation_pressure(647.0960000000001),
+    );
     answer(
         b"saturation pressure at NaN",
         saturation_pressure(0.0 / 0.0),
@@ -285,14 +289,14 @@ fn b23_a() {
         B23_pressure(863.1499999999999),
     );
     answer(b"B23 pressure at 863.15", B23_pressure(863.15));
-    answer(
-        b"B23 pressure at 863.15, the double above",
-        B23_pressure(863.1500000000001),
-    );
 }
 
 // B23 at its limits.
 fn b23_b() {
+    answer(
+        b"B23 pressure at 863.15, the double above",
+        B23_pressure(863.1500000000001),
+    );
     answer(
         b"B23 temperature at 16.5291643, the double below",
         B23_temperature(16.529164299999998),
@@ -309,15 +313,15 @@ fn b23_b() {
         b"B23 temperature at 100.0, the double below",
         B23_temperature(99.99999999999999),
     );
+}
+
+// B23 at its limits.
+fn b23_c() {
     answer(b"B23 temperature at 100.0", B23_temperature(100.0));
     answer(
         b"B23 temperature at 100.0, the double above",
         B23_temperature(100.00000000000001),
     );
-}
-
-// B23 at its limits.
-fn b23_c() {
     answer(b"B23 pressure at NaN", B23_pressure(0.0 / 0.0));
     answer(
         b"B23 temperature at minus infinity",
@@ -376,14 +380,14 @@ fn limits_a() {
         b"bisection, limit 20001",
         pv2T(PvRegion::One, 3.0, pT2v_reg1(3.0, 300.0), 20001),
     );
-    answer(
-        b"bisection, limit 4294967295",
-        pv2T(PvRegion::One, 3.0, pT2v_reg1(3.0, 300.0), 4294967295),
-    );
 }
 
 // The step limits next to 0 and 20,000.
 fn limits_b() {
+    answer(
+        b"bisection, limit 4294967295",
+        pv2T(PvRegion::One, 3.0, pT2v_reg1(3.0, 300.0), 4294967295),
+    );
     answer(
         b"Brent, limit 1",
         Th2p(Region::Two, 700.0, pT2h_reg2(30.0, 700.0), 1),
@@ -400,6 +404,10 @@ fn limits_b() {
         b"Brent, limit 20000",
         Th2p(Region::Two, 700.0, pT2h_reg2(30.0, 700.0), 20000),
     );
+}
+
+// The step limits next to 0 and 20,000.
+fn limits_c() {
     answer(
         b"Brent, limit 20001",
         Th2p(Region::Two, 700.0, pT2h_reg2(30.0, 700.0), 20001),
@@ -408,10 +416,6 @@ fn limits_b() {
         b"Brent, limit 4294967295",
         Th2p(Region::Two, 700.0, pT2h_reg2(30.0, 700.0), 4294967295),
     );
-}
-
-// The step limits next to 0 and 20,000.
-fn limits_c() {
     answer(
         b"limit 20001 before NaN",
         pv2T(PvRegion::One, 0.0 / 0.0, 0.0 / 0.0, 20001),
@@ -434,14 +438,14 @@ fn order_a() {
     );
     answer(b"v = 0", pv2T(PvRegion::Two, 1.0, 0.0, 20000));
     answer(b"v = -0", Tv2p(Region::Two, 500.0, -0.0, 20000));
-    answer(
-        b"v the least double",
-        Tv2p(Region::Two, 500.0, 5.0e-324, 20000),
-    );
 }
 
 // The order of refusals, and NaN, infinities, -0 and subnormals in each place of a search.
 fn order_b() {
+    answer(
+        b"v the least double",
+        Tv2p(Region::Two, 500.0, 5.0e-324, 20000),
+    );
     answer(b"v infinite", Tv2p(Region::Two, 500.0, 1.0 / 0.0, 20000));
     answer(b"T infinite", Ts2p(Region::One, 1.0 / 0.0, 1.0, 20000));
     answer(b"h NaN", Th2p(Region::Two, 500.0, 0.0 / 0.0, 20000));
@@ -449,6 +453,10 @@ fn order_b() {
         b"s minus infinity",
         Ts2p(Region::Two, 500.0, -1.0 / 0.0, 20000),
     );
+}
+
+// The order of refusals, and NaN, infinities, -0 and subnormals in each place of a search.
+fn order_c() {
     answer(
         b"h the largest double",
         Th2p(Region::One, 500.0, 1.7976931348623157e+308, 20000),
@@ -477,14 +485,14 @@ fn ranges_p_a() {
         b"region 1 (p,v), p = 100",
         pv2T(PvRegion::One, 100.0, 0.001, 20000),
     );
-    answer(
-        b"region 1 (p,v), p = 100, the double above",
-        pv2T(PvRegion::One, 100.00000000000001, 0.001, 20000),
-    );
 }
 
 // The doubles next to the p limits of (p,v).
 fn ranges_p_b() {
+    answer(
+        b"region 1 (p,v), p = 100, the double above",
+        pv2T(PvRegion::One, 100.00000000000001, 0.001, 20000),
+    );
     answer(
         b"region 2 (p,v), p = 1.0e-8, the double below",
         pv2T(PvRegion::Two, 9.999999999999999e-09, 20000000.0, 20000),
@@ -521,14 +529,14 @@ fn ranges_T_a() {
         b"region 1 (T,h), T = 623.15",
         Th2p(Region::One, 623.15, 1650.0, 20000),
     );
-    answer(
-        b"region 1 (T,h), T = 623.15, the double above",
-        Th2p(Region::One, 623.1500000000001, 1650.0, 20000),
-    );
 }
 
 // The doubles next to the T limits of the searches by T.
 fn ranges_T_b() {
+    answer(
+        b"region 1 (T,h), T = 623.15, the double above",
+        Th2p(Region::One, 623.1500000000001, 1650.0, 20000),
+    );
     answer(
         b"region 2 (T,s), T = 1073.15, the double below",
         Ts2p(Region::Two, 1073.1499999999999, 8.0, 20000),
@@ -545,6 +553,10 @@ fn ranges_T_b() {
         b"region 2 (T,s), T = 863.15, the double below",
         Ts2p(Region::Two, 863.1499999999999, 6.0, 20000),
     );
+}
+
+// The doubles next to the T limits of the searches by T.
+fn ranges_T_c() {
     answer(
         b"region 2 (T,s), T = 863.15",
         Ts2p(Region::Two, 863.15, 6.0, 20000),
@@ -553,10 +565,6 @@ fn ranges_T_b() {
         b"region 2 (T,s), T = 863.15, the double above",
         Ts2p(Region::Two, 863.1500000000001, 6.0, 20000),
     );
-}
-
-// The doubles next to the T limits of the searches by T.
-fn ranges_T_c() {
     answer(
         b"region 2 (T,s), T = 623.15, the double below",
         Ts2p(Region::Two, 623.1499999999999, 5.5, 20000),
@@ -572,7 +580,7 @@ fn ranges_T_c() {
 }
 
 // Found values inside and outside.
-fn marks() {
+fn marks_a() {
     answer(
         b"region 2 (T,h), a pressure outside",
         Th2p(Region::Two, 300.0, pT2h_reg2(0.1, 300.0), 20000),
@@ -593,6 +601,10 @@ fn marks() {
         b"region 1 (T,s), a pressure",
         Ts2p(Region::One, 450.0, pT2s_reg1(20.0, 450.0), 20000),
     );
+}
+
+// Found values inside and outside.
+fn marks_b() {
     answer(
         b"region 1 (T,v), on the saturation line",
         Tv2p(
@@ -612,7 +624,8 @@ pub fn all() {
     rule_T_c();
     rule_p_a();
     rule_p_b();
-    reading14();
+    reading14_a();
+    reading14_b();
     saturation_a();
     saturation_b();
     b23_a();
@@ -624,10 +637,12 @@ pub fn all() {
     limits_c();
     order_a();
     order_b();
+    order_c();
     ranges_p_a();
     ranges_p_b();
     ranges_T_a();
     ranges_T_b();
     ranges_T_c();
-    marks();
+    marks_a();
+    marks_b();
 }

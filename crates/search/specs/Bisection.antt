@@ -1,6 +1,6 @@
 -- Document 01's bisection: the middle, the tests in their order, the step, and the run over any residual function. The width at which it is narrow is handed in.
 use Prim.Native.Nat.{ℕ, _+_}
-use mathlib.Core.Bool.{Bool, true, false, cond, _||_}
+use mathlib.Core.Bool.{Bool, cond, _||_}
 use mathlib.Core.List.{List}
 use lib.Ieee.{Float, lt}
 use lib.Ieee.Scale.{finite}
@@ -11,7 +11,7 @@ use Rattle.float.specs.Sign.{nought, magnitude, sameSign}
 use Rattle.search.specs.Run.{Go, stop, go, runFrom, statesFrom}
 use Rattle.search.specs.declared.bracket.Bracket.{Bracket}
 use Rattle.search.specs.declared.bracket.Outcome.{Outcome}
-use Rattle.search.specs.declared.bracket.Outcome.the-variants.{ExactEnd, SmallResidual, Narrow, Refused}
+use Rattle.search.specs.declared.bracket.Outcome.the-variants.{SmallResidual, Narrow, Refused}
 use Rattle.search.specs.declared.bisection.Turn.{Turn}
 use Rattle.search.specs.declared.bisection.Turn.the-variants.{Done, Next}
 

@@ -1,5 +1,5 @@
 -- A bracket with its residuals, and document 01's sign rule. What is reported is the lower end first.
-use mathlib.Core.Bool.{Bool, true, false, cond}
+use mathlib.Core.Bool.{Bool, false, cond}
 use lib.Ieee.{Float, lt}
 use Rattle.float.specs.Sign.{nought}
 use Rattle.search.specs.declared.bracket.Bracket.{Bracket}

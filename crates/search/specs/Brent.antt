@@ -1,6 +1,6 @@
 -- Document 01's Brent search, after the Rust's `zbrent`: the state, where it aims, its step, and the run over any residual function.
 use Prim.Native.Nat.{ℕ, _+_}
-use mathlib.Core.Bool.{Bool, true, false, cond, _&&_}
+use mathlib.Core.Bool.{cond, _&&_}
 use mathlib.Core.List.{List, map}
 use lib.Ieee.{Float, neg, lt, le, eq, ne}
 use lib.Ieee.Scale.{finite}
@@ -15,7 +15,7 @@ use Rattle.search.specs.declared.brent.Brent.{Brent}
 use Rattle.search.specs.declared.brent.Lengths.{Lengths}
 use Rattle.search.specs.declared.brent.Ratio.{Ratio}
 use Rattle.search.specs.declared.bracket.Outcome.{Outcome}
-use Rattle.search.specs.declared.bracket.Outcome.the-variants.{ExactEnd, SmallResidual, Narrow, Refused}
+use Rattle.search.specs.declared.bracket.Outcome.the-variants.{SmallResidual, Narrow, Refused}
 use Rattle.search.specs.declared.brent.Aim.{Aim}
 use Rattle.search.specs.declared.brent.Aim.the-variants.{Stop, At}
 use Rattle.search.specs.declared.brent.BrentTurn.{BrentTurn}

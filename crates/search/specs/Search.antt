@@ -1,6 +1,6 @@
 -- How a search opens, in document 01's order: 5, then both ends evaluated: 6, a zero at the lower end, a zero at the upper end, 7, then the steps.
 use Prim.Native.Nat.{ℕ}
-use mathlib.Core.Bool.{Bool, cond, _&&_}
+use mathlib.Core.Bool.{cond, _&&_}
 use lib.Ieee.{Float, lt, eq}
 use lib.Ieee.Scale.{finite}
 use Rattle.float.specs.Sign.{nought, sameSign}
@@ -9,7 +9,7 @@ use Rattle.search.specs.Bisection.{bisection}
 use Rattle.search.specs.Brent.{zbrent}
 use Rattle.search.specs.declared.bracket.Bracket.{Bracket}
 use Rattle.search.specs.declared.bracket.Outcome.{Outcome}
-use Rattle.search.specs.declared.bracket.Outcome.the-variants.{ExactEnd, SmallResidual, Narrow, Refused}
+use Rattle.search.specs.declared.bracket.Outcome.the-variants.{ExactEnd, Refused}
 use Rattle.search.specs.declared.bracket.Opening.{Opening}
 use Rattle.search.specs.declared.bracket.Opening.the-variants.{Closed, Open}
 

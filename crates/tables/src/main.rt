@@ -49,7 +49,7 @@ fn line(name: &[u8], x: f64, scale: f64, printed: u64, power: &[u8]) {
     }
 }
 
-fn table5_first() {
+fn table5_first_v_h_u() {
     line(
         b"Table 5, 3 MPa, 300 K: v",
         pT2v_reg1(3.0, 300.0),
@@ -71,6 +71,9 @@ fn table5_first() {
         112324818,
         b"e3",
     );
+}
+
+fn table5_first_s_cp_w() {
     line(
         b"Table 5, 3 MPa, 300 K: s",
         pT2s_reg1(3.0, 300.0),
@@ -94,7 +97,7 @@ fn table5_first() {
     );
 }
 
-fn table5_second() {
+fn table5_second_v_h_u() {
     line(
         b"Table 5, 80 MPa, 300 K: v",
         pT2v_reg1(80.0, 300.0),
@@ -116,6 +119,9 @@ fn table5_second() {
         106448356,
         b"e3",
     );
+}
+
+fn table5_second_s_cp_w() {
     line(
         b"Table 5, 80 MPa, 300 K: s",
         pT2s_reg1(80.0, 300.0),
@@ -139,7 +145,7 @@ fn table5_second() {
     );
 }
 
-fn table5_third() {
+fn table5_third_v_h_u() {
     line(
         b"Table 5, 3 MPa, 500 K: v",
         pT2v_reg1(3.0, 500.0),
@@ -161,6 +167,9 @@ fn table5_third() {
         971934985,
         b"e3",
     );
+}
+
+fn table5_third_s_cp_w() {
     line(
         b"Table 5, 3 MPa, 500 K: s",
         pT2s_reg1(3.0, 500.0),
@@ -184,7 +193,7 @@ fn table5_third() {
     );
 }
 
-fn table15_first() {
+fn table15_first_v_h_u() {
     line(
         b"Table 15, 0.0035 MPa, 300 K: v",
         pT2v_reg2(0.0035, 300.0),
@@ -206,6 +215,9 @@ fn table15_first() {
         241169160,
         b"e4",
     );
+}
+
+fn table15_first_s_cp_w() {
     line(
         b"Table 15, 0.0035 MPa, 300 K: s",
         pT2s_reg2(0.0035, 300.0),
@@ -229,7 +241,7 @@ fn table15_first() {
     );
 }
 
-fn table15_second() {
+fn table15_second_v_h_u() {
     line(
         b"Table 15, 0.0035 MPa, 700 K: v",
         pT2v_reg2(0.0035, 700.0),
@@ -251,6 +263,9 @@ fn table15_second() {
         301262819,
         b"e4",
     );
+}
+
+fn table15_second_s_cp_w() {
     line(
         b"Table 15, 0.0035 MPa, 700 K: s",
         pT2s_reg2(0.0035, 700.0),
@@ -274,7 +289,7 @@ fn table15_second() {
     );
 }
 
-fn table15_third() {
+fn table15_third_v_h_u() {
     line(
         b"Table 15, 30 MPa, 700 K: v",
         pT2v_reg2(30.0, 700.0),
@@ -296,6 +311,9 @@ fn table15_third() {
         246861076,
         b"e4",
     );
+}
+
+fn table15_third_s_cp_w() {
     line(
         b"Table 15, 30 MPa, 700 K: s",
         pT2s_reg2(30.0, 700.0),
@@ -319,7 +337,7 @@ fn table15_third() {
     );
 }
 
-fn saturation() {
+fn table35() {
     line(
         b"Table 35, 300 K: p",
         p_saturation_formula(300.0),
@@ -341,6 +359,9 @@ fn saturation() {
         123443146,
         b"e2",
     );
+}
+
+fn table36() {
     line(
         b"Table 36, 0.1 MPa: T",
         T_saturation_formula(0.1),
@@ -362,6 +383,9 @@ fn saturation() {
         584149488,
         b"e3",
     );
+}
+
+fn b23() {
     line(
         b"B23, 623.15 K: p",
         B23_T2p(623.15),
@@ -379,11 +403,19 @@ fn saturation() {
 }
 
 fn main() {
-    table5_first();
-    table5_second();
-    table5_third();
-    table15_first();
-    table15_second();
-    table15_third();
-    saturation();
+    table5_first_v_h_u();
+    table5_first_s_cp_w();
+    table5_second_v_h_u();
+    table5_second_s_cp_w();
+    table5_third_v_h_u();
+    table5_third_s_cp_w();
+    table15_first_v_h_u();
+    table15_first_s_cp_w();
+    table15_second_v_h_u();
+    table15_second_s_cp_w();
+    table15_third_v_h_u();
+    table15_third_s_cp_w();
+    table35();
+    table36();
+    b23();
 }

@@ -12,6 +12,7 @@ use Rattle.float.specs.Root.{squareRoot, fourthRoot}
 use Rattle.float.specs.Sign.{nought, sameSign}
 use Rattle.common.specs.Constant.{T-623}
 use Rattle.search.specs.Bisection.{step}
+use Rattle.search.specs.Brent.{plain}
 use Rattle.vessel.specs.Range.{refusal}
 use Rattle.vessel.specs.Calls.{property}
 use Rattle.vessel.specs.Table.{numberOf}
@@ -35,10 +36,6 @@ Holds (next n x1 x2 lower upper) = (r1 r2 r : Float) → T (lt r1 nought) → T 
 abbrev pub AllHold : List Reading → Type 0
 AllHold [] = Prim.Unit {0}
 AllHold (r ∷ rs) = Holds r × AllHold rs
-
--- d * 10 ^ e
-abbrev pub plain : ℕ → Float
-plain d = rounded (number d (+ 0))
 
 abbrev pub minus : ℕ → Float
 minus d = rounded (record { sign = true; digits = d; exponent = + 0 })

@@ -3,12 +3,12 @@ use mathlib.Core.Path.{_≡_, sym, ap, _∙_, subst}
 use mathlib.Core.Logic.{inl, inr}
 use mathlib.Core.Bool.{Bool, true, false}
 use Prim.Native.Nat.{ℕ, _+_, _-_, _*_, _≤_, _<_}
-use native.Mathlib.Nat.{le-of-lt, mul-le-mul-right, not-le-of-lt, lt-of-not-le, add-le-add}
+use native.Mathlib.Nat.{le-of-lt, mul-le-mul-right, add-le-add}
 use native.Mathlib.Omega.{arith}
 use lib.Dec.{T}
 use lib.Pow.{pow-pos}
 use lib.Ieee.{Float}
-use Rattle.exact.specs.Value.{inUnits, negative, when, unless, plus, minus, double, Less, AtMost}
+use Rattle.exact.specs.Value.{inUnits, negative, when, unless, plus, minus, double, AtMost}
 use Rattle.exact.specs.Rounding.{grid, Rounds, apart}
 use Rattle.exact.proofs.Grid.{grid-mono, grid-zero, either}
 use Rattle.exact.proofs.Value.{units-rep, grid-rep, units-of-plus, units-of-minus}
@@ -68,12 +68,6 @@ pub rounds-ge : (r y : Float) (p n c : ℕ) → Rounds r p n c → 0 < c → T (
 rounds-ge r y p n c R C h l = rounds-mono y r (plus y) (minus y) 1 p n c (self-rounds y h) R (pow-pos 0) C (omega arith)
 
 -- so a result below y has an exact result below y, and one above y an exact result above y
-pub rounds-lt : (r y : Float) (p n c : ℕ) → Rounds r p n c → 0 < c → T (double y) → Less r y → p + minus y * c < plus y * c + n
-rounds-lt r y p n c R C h l = lt-of-not-le (λ (k : plus y * c + n ≤ p + minus y * c). not-le-of-lt l (rounds-ge r y p n c R C h k))
-
-pub rounds-gt : (r y : Float) (p n c : ℕ) → Rounds r p n c → 0 < c → T (double y) → Less y r → plus y * c + n < p + minus y * c
-rounds-gt r y p n c R C h l = lt-of-not-le (λ (k : p + minus y * c ≤ plus y * c + n). not-le-of-lt l (rounds-le r y p n c R C h k))
-
 -- ---- the size of a result
 pub rounds-units : (r : Float) (p n c : ℕ) → Rounds r p n c → 0 < c → inUnits r ≡ grid (apart p n) c
 rounds-units r p n c R C = elim (either n p) [
