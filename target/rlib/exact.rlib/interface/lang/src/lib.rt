@@ -1,1 +1,0 @@
-pub fn middle ( x1 : f64 , x2 : f64 ) -> f64 ;

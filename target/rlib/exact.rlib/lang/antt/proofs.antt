@@ -1,9 +1,0 @@
-pub mod Grid
-pub mod Value
-pub mod Order
-pub mod Operations
-pub mod Rounding
-pub mod Finite
-pub mod Halfway
-pub mod Width
-pub mod Bits

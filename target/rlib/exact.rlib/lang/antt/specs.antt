@@ -1,4 +1,0 @@
-pub mod Operations
-pub mod Value
-pub mod Rounding
-pub mod Middle
