@@ -1,0 +1,40 @@
+-- `climboat::calls::Tv2p` meets its contract: its number is taken apart, and one that names nothing leaves at once. Assumes nothing.
+use Rattle.climboat.specs.Calls.{Tv2p, inRegion}
+use borrow.Author.Needs.{needs}
+use Rattle.climboat.proofs.calls.Tv2p.Statement.{statement}
+use Rattle.climboat.proofs.calls.Tv2p.Tie as tie
+
+region-requires : tie.Need-region-requires
+region-requires c κs = search needs
+
+enum-known-in-region : tie.Need-enum-known-in-region
+enum-known-in-region c = search needs
+
+enum-told : tie.Need-enum-told
+enum-told c = search needs
+
+refused-requires : tie.Need-refused-requires
+refused-requires c κs = search needs
+
+returns : tie.Need-returns
+unfolding Tv2p inRegion
+returns c = rw (← c .before .before .before .region .ensures, c .before .enum-told .given .1) (c .refused .ensures)
+
+Tv2p-requires : tie.Need-Tv2p-requires
+Tv2p-requires c κs = search needs
+
+returns-2 : tie.Need-returns-2
+unfolding Tv2p inRegion
+returns-2 c = rw (← c .before .before .before .before .region .ensures, c .before .before .in-region .given .1) (c .Tv2p .ensures)
+
+pub Tv2p-spec : {M : Type 1} → statement M
+Tv2p-spec =
+    tie.close
+    (tie.spec
+    region-requires
+    enum-known-in-region
+    enum-told
+    refused-requires
+    returns
+    Tv2p-requires
+    returns-2)

@@ -1,0 +1,61 @@
+-- `climboat::calls::pT` meets its contract: each number is taken apart, and one that names nothing leaves at once. Assumes nothing.
+use Rattle.climboat.specs.Calls.{pT, inRegion, ofProperty}
+use borrow.Author.Needs.{needs}
+use Rattle.climboat.proofs.calls.pT.Statement.{statement}
+use Rattle.climboat.proofs.calls.pT.Tie as tie
+
+region-requires : tie.Need-region-requires
+region-requires c κs = search needs
+
+enum-known-in-region : tie.Need-enum-known-in-region
+enum-known-in-region c = search needs
+
+enum-told : tie.Need-enum-told
+enum-told c = search needs
+
+refused-requires : tie.Need-refused-requires
+refused-requires c κs = search needs
+
+returns : tie.Need-returns
+unfolding pT inRegion ofProperty
+returns c = rw (← c .before .before .before .region .ensures, c .before .enum-told .given .1) (c .refused .ensures)
+
+property-requires : tie.Need-property-requires
+property-requires c κs = search needs
+
+enum-known-of-property : tie.Need-enum-known-of-property
+enum-known-of-property c = search needs
+
+enum-told-2 : tie.Need-enum-told-2
+enum-told-2 c = search needs
+
+refused-requires-2 : tie.Need-refused-requires-2
+refused-requires-2 c κs = search needs
+
+returns-2 : tie.Need-returns-2
+unfolding pT inRegion ofProperty
+returns-2 c = rw (← c .before .before .before .before .before .before .before .region .ensures, c .before .before .before .before .before .in-region .given .1, ← c .before .before .before .property .ensures, c .before .enum-told2 .given .1) (c .refused2 .ensures)
+
+pT-requires : tie.Need-pT-requires
+pT-requires c κs = search needs
+
+returns-3 : tie.Need-returns-3
+unfolding pT inRegion ofProperty
+returns-3 c = rw (← c .before .before .before .before .before .before .before .before .region .ensures, c .before .before .before .before .before .before .in-region .given .1, ← c .before .before .before .before .property .ensures, c .before .before .of-property .given .1) (c .pT .ensures)
+
+pub pT-spec : {M : Type 1} → statement M
+pT-spec =
+    tie.close
+    (tie.spec
+    region-requires
+    enum-known-in-region
+    enum-told
+    refused-requires
+    returns
+    property-requires
+    enum-known-of-property
+    enum-told-2
+    refused-requires-2
+    returns-2
+    pT-requires
+    returns-3)

@@ -1,0 +1,213 @@
+/* Climboat for C11 and C++: what temperature, what pressure, what volume, for water and steam (IAPWS-IF97 regions 1 and 2), or a numbered refusal.
+ * Link libclimboat.a (tools/staticlib climboat). Units: MPa, K, m^3/kg, kJ/kg, kJ/(kg K), m/s. Any two doubles may be given, NaN and infinities included: no call traps, allocates or keeps state. */
+#ifndef CLIMBOAT_H
+#define CLIMBOAT_H
+
+#include <stdbool.h>
+#include <stdint.h>
+
+#ifdef __cplusplus
+extern "C" {
+#endif
+
+/* The region, always named by the caller; any other number is refused by CLIMBOAT_NOTHING_NAMED. */
+enum climboat_region {
+    CLIMBOAT_REGION_1 = 1, /* liquid water: 273.15 to 623.15 K, from saturation pressure to 100 MPa */
+    CLIMBOAT_REGION_2 = 2  /* steam: 273.15 to 1073.15 K, from 1.0e-8 MPa to saturation pressure, B23 or 100 MPa */
+};
+
+/* The property of a climboat_pT call; any other number is refused by CLIMBOAT_NOTHING_NAMED. */
+enum climboat_property {
+    CLIMBOAT_VOLUME = 1,          /* v, m^3/kg */
+    CLIMBOAT_INTERNAL_ENERGY = 2, /* u, kJ/kg */
+    CLIMBOAT_ENTROPY = 3,         /* s, kJ/(kg K) */
+    CLIMBOAT_ENTHALPY = 4,        /* h, kJ/kg */
+    CLIMBOAT_CP = 5,              /* cp, kJ/(kg K) */
+    CLIMBOAT_CV = 6,              /* cv, kJ/(kg K) */
+    CLIMBOAT_SPEED_OF_SOUND = 7   /* w, m/s */
+};
+
+/* Why a value is given. */
+enum climboat_reason {
+    CLIMBOAT_NO_REASON = 0,     /* a refusal */
+    CLIMBOAT_VALUE = 1,         /* the call does not search */
+    CLIMBOAT_EXACT_END = 2,     /* the residual at an end of the bracket is zero */
+    CLIMBOAT_SMALL_RESIDUAL = 3, /* the residual is within its tolerance */
+    CLIMBOAT_NARROW = 4         /* the bracket is within its tolerance */
+};
+
+/* Whether a found value lies inside its region by the (p,T) rule; outside is still an answer. */
+enum climboat_mark {
+    CLIMBOAT_UNMARKED = 0, /* a refusal, or a call that does not search */
+    CLIMBOAT_INSIDE = 1,
+    CLIMBOAT_OUTSIDE = 2
+};
+
+/* The numbers of refusals. */
+enum climboat_refusal {
+    CLIMBOAT_ANSWERED = 0,             /* no refusal */
+    CLIMBOAT_NOT_FINITE = 1,           /* an input is NaN or infinite */
+    CLIMBOAT_T_OUT_OF_RANGE = 2,       /* the temperature is out of range */
+    CLIMBOAT_P_OUT_OF_RANGE = 3,       /* the pressure is out of range */
+    CLIMBOAT_V_NOT_POSITIVE = 4,       /* the volume is not above zero */
+    CLIMBOAT_EMPTY_BRACKET = 5,        /* the lower end is not below the upper end */
+    CLIMBOAT_RESIDUAL_NOT_FINITE = 6,  /* a residual that was evaluated is not finite */
+    CLIMBOAT_SAME_SIGN = 7,            /* both ends have residuals of one sign; it does not mean that there is no such state */
+    CLIMBOAT_STEPS_SPENT = 8,          /* the step limit was reached; value is the last point, not an answer */
+    CLIMBOAT_RESULT_NOT_FINITE = 9,    /* a property, saturation or B23 result is not finite */
+    CLIMBOAT_POINT_OUTSIDE = 10,       /* the next point is outside the bracket */
+    CLIMBOAT_LIMIT_TOO_LARGE = 11,     /* the step limit is above CLIMBOAT_STEP_LIMIT */
+    CLIMBOAT_NOTHING_NAMED = 21        /* the number given for a region or a property names nothing */
+};
+
+/* The largest step limit, and the one that the vessels use. */
+#define CLIMBOAT_STEP_LIMIT 20000u
+
+/* What every call answers. number is CLIMBOAT_ANSWERED, or a refusal's number; value counts only where it is CLIMBOAT_ANSWERED. */
+struct climboat_answer {
+    uint32_t number; /* enum climboat_refusal */
+    uint32_t reason; /* enum climboat_reason */
+    uint32_t steps;  /* evaluations after the two ends; 0 without a search */
+    uint32_t mark;   /* enum climboat_mark */
+    double value;    /* the answer; 0 for a refusal, but for 8 the last point */
+    double lower;    /* the bracket at the search's last test, lower end first; 0 and 0 without one */
+    double upper;
+};
+
+/* What the archive exports: each call writes number, reason, steps, mark and value, lower, upper into two lent arrays. Use the functions below instead. */
+void climboat_pT_record(uint32_t region, uint32_t property, double p, double T, uint32_t numbers[4], double doubles[3]);
+void climboat_saturation_pressure_record(double T, uint32_t numbers[4], double doubles[3]);
+void climboat_saturation_temperature_record(double p, uint32_t numbers[4], double doubles[3]);
+void climboat_B23_pressure_record(double T, uint32_t numbers[4], double doubles[3]);
+void climboat_B23_temperature_record(double p, uint32_t numbers[4], double doubles[3]);
+void climboat_pv2T_record(uint32_t region, double p, double v, uint32_t limit, uint32_t numbers[4], double doubles[3]);
+void climboat_Tv2p_record(uint32_t region, double T, double v, uint32_t limit, uint32_t numbers[4], double doubles[3]);
+void climboat_Th2p_record(uint32_t region, double T, double h, uint32_t limit, uint32_t numbers[4], double doubles[3]);
+void climboat_Ts2p_record(uint32_t region, double T, double s, uint32_t limit, uint32_t numbers[4], double doubles[3]);
+
+static inline struct climboat_answer climboat_answer_of(const uint32_t numbers[4], const double doubles[3])
+{
+    struct climboat_answer answer;
+    answer.number = numbers[0];
+    answer.reason = numbers[1];
+    answer.steps = numbers[2];
+    answer.mark = numbers[3];
+    answer.value = doubles[0];
+    answer.lower = doubles[1];
+    answer.upper = doubles[2];
+    return answer;
+}
+
+/* A property (enum climboat_property) of a region (enum climboat_region) at p in MPa and T in K. */
+static inline struct climboat_answer climboat_pT(uint32_t region, uint32_t property, double p, double T)
+{
+    uint32_t numbers[4];
+    double doubles[3];
+    climboat_pT_record(region, property, p, T, numbers, doubles);
+    return climboat_answer_of(numbers, doubles);
+}
+
+/* The saturation pressure in MPa at T in K, from 273.15 to 647.096 K. */
+static inline struct climboat_answer climboat_saturation_pressure(double T)
+{
+    uint32_t numbers[4];
+    double doubles[3];
+    climboat_saturation_pressure_record(T, numbers, doubles);
+    return climboat_answer_of(numbers, doubles);
+}
+
+/* The saturation temperature in K at p in MPa, from 0.000611212677 to 22.064 MPa. */
+static inline struct climboat_answer climboat_saturation_temperature(double p)
+{
+    uint32_t numbers[4];
+    double doubles[3];
+    climboat_saturation_temperature_record(p, numbers, doubles);
+    return climboat_answer_of(numbers, doubles);
+}
+
+/* The pressure in MPa of the boundary B23 at T in K, from 623.15 to 863.15 K. */
+static inline struct climboat_answer climboat_B23_pressure(double T)
+{
+    uint32_t numbers[4];
+    double doubles[3];
+    climboat_B23_pressure_record(T, numbers, doubles);
+    return climboat_answer_of(numbers, doubles);
+}
+
+/* The temperature in K of the boundary B23 at p in MPa, from 16.5291643 to 100 MPa. */
+static inline struct climboat_answer climboat_B23_temperature(double p)
+{
+    uint32_t numbers[4];
+    double doubles[3];
+    climboat_B23_temperature_record(p, numbers, doubles);
+    return climboat_answer_of(numbers, doubles);
+}
+
+/* (p,v) to T: the temperature in K at p in MPa and v in m^3/kg, in at most limit steps. */
+static inline struct climboat_answer climboat_pv2T(uint32_t region, double p, double v, uint32_t limit)
+{
+    uint32_t numbers[4];
+    double doubles[3];
+    climboat_pv2T_record(region, p, v, limit, numbers, doubles);
+    return climboat_answer_of(numbers, doubles);
+}
+
+/* (T,v) to p: the pressure in MPa at T in K and v in m^3/kg, in at most limit steps. */
+static inline struct climboat_answer climboat_Tv2p(uint32_t region, double T, double v, uint32_t limit)
+{
+    uint32_t numbers[4];
+    double doubles[3];
+    climboat_Tv2p_record(region, T, v, limit, numbers, doubles);
+    return climboat_answer_of(numbers, doubles);
+}
+
+/* (T,h) to p: the pressure in MPa at T in K and h in kJ/kg, in at most limit steps. */
+static inline struct climboat_answer climboat_Th2p(uint32_t region, double T, double h, uint32_t limit)
+{
+    uint32_t numbers[4];
+    double doubles[3];
+    climboat_Th2p_record(region, T, h, limit, numbers, doubles);
+    return climboat_answer_of(numbers, doubles);
+}
+
+/* (T,s) to p: the pressure in MPa at T in K and s in kJ/(kg K), in at most limit steps. */
+static inline struct climboat_answer climboat_Ts2p(uint32_t region, double T, double s, uint32_t limit)
+{
+    uint32_t numbers[4];
+    double doubles[3];
+    climboat_Ts2p_record(region, T, s, limit, numbers, doubles);
+    return climboat_answer_of(numbers, doubles);
+}
+
+/* Whether the answer is a value, and not a refusal. */
+static inline bool climboat_is_answered(struct climboat_answer answer)
+{
+    return answer.number == CLIMBOAT_ANSWERED;
+}
+
+/* What a refusal's number means, in a sentence. */
+static inline const char *climboat_sentence(uint32_t number)
+{
+    switch (number) {
+    case CLIMBOAT_ANSWERED: return "answered";
+    case CLIMBOAT_NOT_FINITE: return "an input is NaN or infinite";
+    case CLIMBOAT_T_OUT_OF_RANGE: return "the temperature is out of range";
+    case CLIMBOAT_P_OUT_OF_RANGE: return "the pressure is out of range";
+    case CLIMBOAT_V_NOT_POSITIVE: return "the volume is not above zero";
+    case CLIMBOAT_EMPTY_BRACKET: return "the lower end of the search is not below its upper end";
+    case CLIMBOAT_RESIDUAL_NOT_FINITE: return "a residual that the search evaluated is not finite";
+    case CLIMBOAT_SAME_SIGN: return "the residuals at both ends of the search have the same sign; this does not mean that there is no such state";
+    case CLIMBOAT_STEPS_SPENT: return "the step limit was reached before an answer";
+    case CLIMBOAT_RESULT_NOT_FINITE: return "a property, saturation or B23 result is not finite";
+    case CLIMBOAT_POINT_OUTSIDE: return "the next point of the search is outside its bracket";
+    case CLIMBOAT_LIMIT_TOO_LARGE: return "the step limit is above 20000";
+    case CLIMBOAT_NOTHING_NAMED: return "the number given for a region or a property names nothing";
+    default: return "no refusal has this number";
+    }
+}
+
+#ifdef __cplusplus
+}
+#endif
+
+#endif
