@@ -1,4 +1,4 @@
-//! What Climboat exports for comparing, wrapped once: no function of it asks anything of its caller.
+//! What Climboat's two archives offer, wrapped once: no function of them asks anything of its caller.
 // without the original crate the equations and the searches have nothing to be compared with
 #![cfg_attr(not(feature = "original"), allow(dead_code))]
 
@@ -32,22 +32,15 @@ mod archive {
         pub fn saturation_temperature(p: f64) -> f64;
         pub fn b23_pressure(t: f64) -> f64;
         pub fn b23_temperature(p: f64) -> f64;
-        pub fn pv2T_number(region: u32, p: f64, v: f64, limit: u32) -> u32;
-        pub fn pv2T_value(region: u32, p: f64, v: f64, limit: u32) -> f64;
-        pub fn pv2T_reason(region: u32, p: f64, v: f64, limit: u32) -> u32;
-        pub fn pv2T_steps(region: u32, p: f64, v: f64, limit: u32) -> u32;
-        pub fn Tv2p_number(region: u32, t: f64, v: f64, limit: u32) -> u32;
-        pub fn Tv2p_value(region: u32, t: f64, v: f64, limit: u32) -> f64;
-        pub fn Tv2p_reason(region: u32, t: f64, v: f64, limit: u32) -> u32;
-        pub fn Tv2p_steps(region: u32, t: f64, v: f64, limit: u32) -> u32;
-        pub fn Th2p_number(region: u32, t: f64, h: f64, limit: u32) -> u32;
-        pub fn Th2p_value(region: u32, t: f64, h: f64, limit: u32) -> f64;
-        pub fn Th2p_reason(region: u32, t: f64, h: f64, limit: u32) -> u32;
-        pub fn Th2p_steps(region: u32, t: f64, h: f64, limit: u32) -> u32;
-        pub fn Ts2p_number(region: u32, t: f64, s: f64, limit: u32) -> u32;
-        pub fn Ts2p_value(region: u32, t: f64, s: f64, limit: u32) -> f64;
-        pub fn Ts2p_reason(region: u32, t: f64, s: f64, limit: u32) -> u32;
-        pub fn Ts2p_steps(region: u32, t: f64, s: f64, limit: u32) -> u32;
+        pub fn climboat_pT_record(region: u32, property: u32, p: f64, t: f64, numbers: *mut [u32; 4], doubles: *mut [f64; 3]);
+        pub fn climboat_saturation_pressure_record(t: f64, numbers: *mut [u32; 4], doubles: *mut [f64; 3]);
+        pub fn climboat_saturation_temperature_record(p: f64, numbers: *mut [u32; 4], doubles: *mut [f64; 3]);
+        pub fn climboat_B23_pressure_record(t: f64, numbers: *mut [u32; 4], doubles: *mut [f64; 3]);
+        pub fn climboat_B23_temperature_record(p: f64, numbers: *mut [u32; 4], doubles: *mut [f64; 3]);
+        pub fn climboat_pv2T_record(region: u32, p: f64, v: f64, limit: u32, numbers: *mut [u32; 4], doubles: *mut [f64; 3]);
+        pub fn climboat_Tv2p_record(region: u32, t: f64, v: f64, limit: u32, numbers: *mut [u32; 4], doubles: *mut [f64; 3]);
+        pub fn climboat_Th2p_record(region: u32, t: f64, h: f64, limit: u32, numbers: *mut [u32; 4], doubles: *mut [f64; 3]);
+        pub fn climboat_Ts2p_record(region: u32, t: f64, s: f64, limit: u32, numbers: *mut [u32; 4], doubles: *mut [f64; 3]);
     }
 }
 
@@ -88,20 +81,90 @@ wrapped! {
     saturation_temperature(p: f64) -> f64 = saturation_temperature;
     b23_pressure(t: f64) -> f64 = b23_pressure;
     b23_temperature(p: f64) -> f64 = b23_temperature;
-    pv_to_t_number(region: u32, p: f64, v: f64, limit: u32) -> u32 = pv2T_number;
-    pv_to_t_value(region: u32, p: f64, v: f64, limit: u32) -> f64 = pv2T_value;
-    pv_to_t_reason(region: u32, p: f64, v: f64, limit: u32) -> u32 = pv2T_reason;
-    pv_to_t_steps(region: u32, p: f64, v: f64, limit: u32) -> u32 = pv2T_steps;
-    tv_to_p_number(region: u32, t: f64, v: f64, limit: u32) -> u32 = Tv2p_number;
-    tv_to_p_value(region: u32, t: f64, v: f64, limit: u32) -> f64 = Tv2p_value;
-    tv_to_p_reason(region: u32, t: f64, v: f64, limit: u32) -> u32 = Tv2p_reason;
-    tv_to_p_steps(region: u32, t: f64, v: f64, limit: u32) -> u32 = Tv2p_steps;
-    th_to_p_number(region: u32, t: f64, h: f64, limit: u32) -> u32 = Th2p_number;
-    th_to_p_value(region: u32, t: f64, h: f64, limit: u32) -> f64 = Th2p_value;
-    th_to_p_reason(region: u32, t: f64, h: f64, limit: u32) -> u32 = Th2p_reason;
-    th_to_p_steps(region: u32, t: f64, h: f64, limit: u32) -> u32 = Th2p_steps;
-    ts_to_p_number(region: u32, t: f64, s: f64, limit: u32) -> u32 = Ts2p_number;
-    ts_to_p_value(region: u32, t: f64, s: f64, limit: u32) -> f64 = Ts2p_value;
-    ts_to_p_reason(region: u32, t: f64, s: f64, limit: u32) -> u32 = Ts2p_reason;
-    ts_to_p_steps(region: u32, t: f64, s: f64, limit: u32) -> u32 = Ts2p_steps;
+}
+
+/// The calls of one number.
+#[derive(Clone, Copy, PartialEq)]
+pub enum Line {
+    SaturationPressure,
+    SaturationTemperature,
+    B23Pressure,
+    B23Temperature,
+}
+
+/// The input that is fixed and then the target.
+#[derive(Clone, Copy, PartialEq)]
+pub enum Pair {
+    Pv,
+    Tv,
+    Th,
+    Ts,
+}
+
+/// What a public call gives, as the C interface writes it.
+#[derive(Clone, Copy, Debug)]
+pub struct Record {
+    pub number: u32,
+    pub reason: u32,
+    pub steps: u32,
+    pub mark: u32,
+    pub value: f64,
+    pub lower: f64,
+    pub upper: f64,
+}
+
+/// Reasons and marks by their numbers; 0 is none.
+pub const VALUE: u32 = 1;
+pub const EXACT_END: u32 = 2;
+pub const SMALL_RESIDUAL: u32 = 3;
+pub const NARROW: u32 = 4;
+pub const INSIDE: u32 = 1;
+pub const OUTSIDE: u32 = 2;
+
+impl Record {
+    /// Bit for bit.
+    pub fn same(&self, other: &Record) -> bool {
+        let numbers = |r: &Record| [r.number, r.reason, r.steps, r.mark];
+        numbers(self) == numbers(other) && self.doubles().map(f64::to_bits) == other.doubles().map(f64::to_bits)
+    }
+
+    pub fn doubles(&self) -> [f64; 3] {
+        [self.value, self.lower, self.upper]
+    }
+}
+
+pub fn property(region: u32, property: u32, p: f64, t: f64) -> Record {
+    written(|numbers, doubles| unsafe { archive::climboat_pT_record(region, property, p, t, numbers, doubles) })
+}
+
+pub fn line(line: Line, x: f64) -> Record {
+    let call = match line {
+        Line::SaturationPressure => archive::climboat_saturation_pressure_record,
+        Line::SaturationTemperature => archive::climboat_saturation_temperature_record,
+        Line::B23Pressure => archive::climboat_B23_pressure_record,
+        Line::B23Temperature => archive::climboat_B23_temperature_record,
+    };
+    written(|numbers, doubles| unsafe { call(x, numbers, doubles) })
+}
+
+#[inline]
+pub fn search(pair: Pair, region: u32, fixed: f64, target: f64, limit: u32) -> Record {
+    let call = match pair {
+        Pair::Pv => archive::climboat_pv2T_record,
+        Pair::Tv => archive::climboat_Tv2p_record,
+        Pair::Th => archive::climboat_Th2p_record,
+        Pair::Ts => archive::climboat_Ts2p_record,
+    };
+    written(|numbers, doubles| unsafe { call(region, fixed, target, limit, numbers, doubles) })
+}
+
+/// The record that a call writes into the two arrays it is lent.
+#[inline]
+fn written(call: impl FnOnce(*mut [u32; 4], *mut [f64; 3])) -> Record {
+    // nothing that an answer can hold, so that a place left unwritten shows
+    let (mut numbers, mut doubles) = ([u32::MAX; 4], [f64::NAN; 3]);
+    call(&mut numbers, &mut doubles);
+    let [number, reason, steps, mark] = numbers;
+    let [value, lower, upper] = doubles;
+    Record { number, reason, steps, mark, value, lower, upper }
 }

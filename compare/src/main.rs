@@ -1,12 +1,26 @@
-//! Climboat against Rust: `compare helpers` compares the float helpers, `compare equations` the equations and `compare searches` the pair searches with the original crate, `compare timing` prints the tables of docs/SPEED.md.
+//! Climboat against Rust: `compare helpers` compares the float helpers, `compare equations` the equations with the original crate, `compare searches` the pair searches with its test copy and with itself, `compare doubles` any two doubles with the refusal table read a second time, `compare recorded` makes the answers that crates/replay keeps, `compare timing` prints the tables of docs/SPEED.md.
 
 mod climboat;
+#[cfg(feature = "original")]
+mod differences;
+#[cfg(feature = "original")]
+mod doubles;
 mod draw;
 #[cfg(feature = "original")]
 mod equations;
 mod helpers;
 #[cfg(feature = "original")]
+mod pairs;
+#[cfg(feature = "original")]
+mod plausible;
+#[cfg(feature = "original")]
+mod question;
+#[cfg(feature = "original")]
+mod recorded;
+#[cfg(feature = "original")]
 mod searches;
+#[cfg(feature = "original")]
+mod table;
 mod tally;
 mod timing;
 
@@ -19,13 +33,17 @@ fn main() -> ExitCode {
         #[cfg(feature = "original")]
         ["equations"] => told(equations::compare()),
         #[cfg(feature = "original")]
-        ["searches"] => told(searches::compare()),
+        ["searches"] => told(searches::compare() & differences::compare()),
+        #[cfg(feature = "original")]
+        ["doubles", ref words @ ..] => told(doubles::command(words)),
+        #[cfg(feature = "original")]
+        ["recorded", ref words @ ..] => told(recorded::command(words)),
         ["timing"] => {
             timing::tables();
             ExitCode::SUCCESS
         }
         _ => {
-            eprintln!("usage: compare helpers | equations | searches | timing (equations and searches where the original crate is at hand)");
+            eprintln!("usage: compare helpers | equations | searches | doubles [N] | recorded [FOLDER | --check] | timing (helpers and timing alone where the original crate is not at hand)");
             ExitCode::from(2)
         }
     }

@@ -1,9 +1,9 @@
 // The float helpers at the edges: document 01's readings 1 to 7, and their neighbours.
-use crate::show::tell;
 use float::power::powi;
 use float::root::fourth_root;
 use float::root::sqrt;
 use float::sign::copysign;
+use show::tell;
 
 fn powers() {
     let nan = 0.0 / 0.0;

@@ -1,9 +1,25 @@
 // Document 01's readings at the edges, and the neighbours that a careful reader would try.
 mod calls;
 mod helpers;
-mod show;
+mod limits;
 
 fn main() {
     helpers::all();
-    calls::all();
+    calls::readings10to12();
+    calls::not_finite();
+    calls::least();
+    limits::rule_T();
+    limits::rule_p();
+    limits::saturation();
+    calls::saturation();
+    limits::b23();
+    calls::b23();
+    calls::readings13to16();
+    calls::step_limits();
+    calls::order();
+    calls::places();
+    limits::ranges_p();
+    limits::ranges_T();
+    calls::outside();
+    calls::inside();
 }

@@ -1,4 +1,4 @@
-// The float helpers, the equations and the pair searches under plain names, for compare/ to link: a static library of nothing but calls.
+// The float helpers and the equations under plain names, for compare/ to link: a static library of nothing but calls.
 ghost use mathlib.Core.Path.{_≡_};
 ghost use lib.Ieee.Scale.{finite};
 ghost use Rattle.float.specs.Sign.{magnitude, smaller, signTaken, sameSign};
@@ -9,8 +9,6 @@ ghost use Rattle.common.specs.Boundaries.{B23-p, B23-T};
 ghost use Rattle.r1.specs.Region1 as region1;
 ghost use Rattle.r2.specs.Region2 as region2;
 ghost use Rattle.r4.specs.Saturation.{saturationPressure, saturationTemperature};
-
-pub mod searches;
 
 #[no_mangle]
 pub extern "C" fn float_abs(x: f64) -> f64

@@ -1,0 +1,184 @@
+//! Any two doubles: pairs of random bit patterns and plausible pairs, each over every public call, against the second reading of the refusal table.
+
+use crate::climboat::{Record, EXACT_END, INSIDE, NARROW, OUTSIDE, SMALL_RESIDUAL, VALUE};
+use crate::draw::Draw;
+use crate::plausible;
+use crate::question::{Question, LINES, PAIRS};
+use std::ops::RangeInclusive;
+use std::thread;
+
+/// Pairs of each kind if no number is given, for the test command; the full run has 10,000,000.
+const HOW_MANY: u64 = 4_000_000;
+
+/// Pairs from one seed, so that a shorter run is the beginning of a longer one and the threads do not matter.
+const BLOCK: u64 = 10_000;
+
+/// Seeds far apart: neighbouring ones begin alike.
+const SPREAD: u64 = 0x9e37_79b9_7f4a_7c15;
+
+const THREADS: u64 = 2;
+
+/// The numbers of the table that a call gives.
+const NUMBERS: [u32; 12] = [1, 2, 3, 4, 5, 6, 7, 8, 9, 10, 11, 21];
+
+type Kind = fn(&mut Draw) -> (f64, f64);
+
+const KINDS: [(&str, Kind); 2] = [
+    ("random bit patterns", |draw| (f64::from_bits(draw.bits()), f64::from_bits(draw.bits()))),
+    ("plausible pairs", plausible::pair),
+];
+
+/// `compare doubles`, with the number of pairs of each kind if it is given.
+pub fn command(words: &[&str]) -> bool {
+    let pairs = match words {
+        [] => Some(HOW_MANY),
+        [n] => n.parse().ok().filter(|&n| n > 0),
+        _ => None,
+    };
+    if pairs.is_none() {
+        eprintln!("usage: compare doubles [how many pairs of each kind]");
+    }
+    pairs.is_some_and(compare)
+}
+
+/// n pairs of each kind; whether nothing differed.
+fn compare(n: u64) -> bool {
+    let mut good = true;
+    for ((name, kind), seed) in KINDS.iter().zip(0x0c1b_0a70_0000_0041u64..) {
+        let counts = thread::scope(|scope| {
+            let threads: Vec<_> = (0..THREADS).map(|first| scope.spawn(move || asked(*kind, seed, n, first))).collect();
+            threads.into_iter().fold(Counts::new(), |counts, thread| counts.with(&thread.join().expect("a thread of doubles.rs")))
+        });
+        println!("{n} {name}, each over every call:");
+        counts.print();
+        good &= counts.differ == 0;
+    }
+    good
+}
+
+/// The blocks of one thread.
+fn asked(kind: Kind, seed: u64, n: u64, first: u64) -> Counts {
+    let mut counts = Counts::new();
+    for block in (first..n.div_ceil(BLOCK)).step_by(THREADS as usize) {
+        let mut draw = Draw::new(seed ^ block.wrapping_mul(SPREAD));
+        for _ in 0..BLOCK.min(n - block * BLOCK) {
+            let (a, b) = kind(&mut draw);
+            for question in questions(&mut draw, a, b) {
+                counts.meet(&question);
+            }
+        }
+    }
+    counts
+}
+
+/// Every call with one pair: the lines take each of the two, the searches a limit of their own.
+fn questions(draw: &mut Draw, a: f64, b: f64) -> Vec<Question> {
+    let mut list = Vec::new();
+    for region in [1, 2] {
+        list.extend((1..=7).map(|property| Question::Property(region, property, a, b)));
+        list.extend(PAIRS.map(|pair| Question::Search(pair, region, a, b, plausible::limit(draw))));
+    }
+    list.extend(LINES.into_iter().flat_map(|line| [a, b].map(|x| Question::Line(line, x))));
+    let region = unknown(draw, 1..=2);
+    list.push(Question::Property(region, 1 + draw.below(7) as u32, a, b));
+    list.push(Question::Property(1 + draw.below(2) as u32, unknown(draw, 1..=7), a, b));
+    list.extend(PAIRS.map(|pair| Question::Search(pair, region, a, b, plausible::limit(draw))));
+    list
+}
+
+/// A number of any size that names nothing.
+fn unknown(draw: &mut Draw, known: RangeInclusive<u32>) -> u32 {
+    let any = draw.bits() as u32 >> draw.below(32);
+    if known.contains(&any) {
+        any + known.end()
+    } else {
+        any
+    }
+}
+
+/// Whether what Climboat gives has the form of an answer or a refusal at all, whatever the second reading says.
+fn formed(question: &Question, record: &Record) -> bool {
+    let Record { number, reason, steps, mark, value, lower, upper } = *record;
+    let search = matches!(question, Question::Search(..));
+    let without_bracket = steps == 0 && [lower, upper].map(f64::to_bits) == [0, 0];
+    let in_bracket = search && lower < upper;
+    let form = match number {
+        0 if reason == VALUE => !search && mark == 0 && without_bracket,
+        0 => [EXACT_END, SMALL_RESIDUAL, NARROW].contains(&reason) && [INSIDE, OUTSIDE].contains(&mark) && in_bracket && lower <= value && value <= upper,
+        6 | 10 => in_bracket && value.to_bits() == 0,
+        8 => in_bracket && lower <= value && value <= upper,
+        _ => NUMBERS.contains(&number) && without_bracket && value.to_bits() == 0,
+    };
+    form && record.doubles().into_iter().all(f64::is_finite) && (number == 0 || (reason == 0 && mark == 0))
+}
+
+/// How often each call gave each outcome: a refusal at its number, an answer after them by its reason and mark.
+struct Counts {
+    met: [[u64; OUTCOMES]; ROWS],
+    differ: u64,
+}
+
+const ROWS: usize = 30;
+const REFUSALS: usize = 22;
+const OUTCOMES: usize = REFUSALS + 15;
+
+fn row(question: &Question) -> usize {
+    let region = match *question {
+        Question::Property(region @ 1..=2, 1..=7, ..) | Question::Search(_, region @ 1..=2, ..) => region,
+        _ => 0,
+    };
+    3 * question.call() + region as usize
+}
+
+fn outcome(record: &Record) -> usize {
+    match record.number {
+        0 => REFUSALS + (3 * record.reason + record.mark) as usize,
+        number => number as usize,
+    }
+}
+
+impl Counts {
+    fn new() -> Counts {
+        Counts { met: [[0; OUTCOMES]; ROWS], differ: 0 }
+    }
+
+    fn with(mut self, other: &Counts) -> Counts {
+        for (here, there) in self.met.as_flattened_mut().iter_mut().zip(other.met.as_flattened()) {
+            *here += there;
+        }
+        self.differ += other.differ;
+        self
+    }
+
+    fn meet(&mut self, question: &Question) {
+        let (ours, second) = (question.climboat(), question.table());
+        if ours.same(&second) && formed(question, &ours) {
+            self.met[row(question)][outcome(&ours)] += 1;
+            return;
+        }
+        self.differ += 1;
+        if self.differ <= 5 {
+            println!("  differs at {}: {ours:?}; the second reading {second:?}", question.digits());
+        }
+    }
+
+    fn print(&self) {
+        for (row, met) in self.met.iter().enumerate().filter(|(_, met)| met.iter().any(|&n| n > 0)) {
+            let call = ["", "(p,T)", "saturation pressure", "saturation temperature", "B23 pressure", "B23 temperature", "(p,v)", "(T,v)", "(T,h)", "(T,s)"][row / 3];
+            let region = if (6..18).contains(&row) { "" } else { ["an unknown region or property, ", "region 1 ", "region 2 "][row % 3] };
+            let parts: Vec<String> = met.iter().enumerate().filter(|(_, n)| **n > 0).map(|(outcome, n)| format!("{n} {}", told(outcome))).collect();
+            println!("  {region}{call}: {}", parts.join(", "));
+        }
+        let never: Vec<String> = NUMBERS.iter().filter(|&&n| self.met.iter().all(|met| met[n as usize] == 0)).map(u32::to_string).collect();
+        println!("  refusals that never occurred: {}; {} differ", if never.is_empty() { String::from("none") } else { never.join(", ") }, self.differ);
+    }
+}
+
+fn told(outcome: usize) -> String {
+    let Some(answer) = outcome.checked_sub(REFUSALS) else {
+        return format!("refused by {outcome}");
+    };
+    let reason = ["", "values", "exact ends", "small residuals", "narrow"][answer / 3];
+    let mark = ["", " inside", " outside"][answer % 3];
+    format!("{reason}{mark}")
+}

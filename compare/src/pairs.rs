@@ -1,0 +1,124 @@
+//! The eight pair searches, each as Climboat, the test copy and the original crate have it, and the states at which they are compared.
+
+use crate::climboat::{self, Pair, Record};
+use crate::draw::Draw;
+use crate::equations::{most, region_1, region_2};
+use copy::r1::region1_pair_ext as copy1;
+use copy::r2::region2_pair_ext as copy2;
+use copy::run::Run;
+use original::common::boundaries::{B23_T2p, B23_p2T};
+use original::r1::region1_pT as r1;
+use original::r1::region1_pair_ext as pairs1;
+use original::r2::region2_pT as r2;
+use original::r2::region2_pair_ext as pairs2;
+use original::r4::region4_sat_pT::{T_saturation, p_saturation};
+
+pub type Function = fn(f64, f64) -> f64;
+
+/// The original's own limit, MAX_ITER.
+pub const LIMIT: u32 = 20_000;
+
+pub struct Search {
+    pub name: &'static str,
+    pub region: u32,
+    pub pair: Pair,
+    pub bisection: bool,
+    /// between which ends, for the input that is fixed
+    pub ends: fn(f64) -> (f64, f64),
+    pub property: Function,
+    pub copys: fn(f64, f64, i32) -> Run,
+    pub rusts: Function,
+}
+
+#[rustfmt::skip]
+pub const SEARCHES: [Search; 8] = [
+    Search { name: "region 1 (p,v) to T", region: 1, pair: Pair::Pv, bisection: true, ends: |p| (273.15, if p >= 16.5291643 { 623.15 } else { T_saturation(p) }), property: r1::pT2v_reg1, copys: copy1::pv2T_reg1, rusts: pairs1::pv2T_reg1 },
+    Search { name: "region 1 (T,v) to p", region: 1, pair: Pair::Tv, bisection: false, ends: |t| (p_saturation(t), 100.0), property: r1::pT2v_reg1, copys: copy1::Tv2p_reg1, rusts: pairs1::Tv2p_reg1 },
+    Search { name: "region 1 (T,h) to p", region: 1, pair: Pair::Th, bisection: false, ends: |t| (p_saturation(t), 100.0), property: r1::pT2h_reg1, copys: copy1::Th2p_reg1, rusts: pairs1::Th2p_reg1 },
+    Search { name: "region 1 (T,s) to p", region: 1, pair: Pair::Ts, bisection: false, ends: |t| (p_saturation(t), 100.0), property: r1::pT2s_reg1, copys: copy1::Ts2p_reg1, rusts: pairs1::Ts2p_reg1 },
+    Search { name: "region 2 (p,v) to T", region: 2, pair: Pair::Pv, bisection: false, ends: |p| (least(p), 1073.15), property: r2::pT2v_reg2, copys: copy2::pv2T_reg2, rusts: pairs2::pv2T_reg2 },
+    Search { name: "region 2 (T,v) to p", region: 2, pair: Pair::Tv, bisection: true, ends: |_| (1.0e-8, 100.0), property: r2::pT2v_reg2, copys: copy2::Tv2p_reg2, rusts: pairs2::Tv2p_reg2 },
+    Search { name: "region 2 (T,h) to p", region: 2, pair: Pair::Th, bisection: false, ends: |_| (1.0e-8, 100.0), property: r2::pT2h_reg2, copys: copy2::Th2p_reg2, rusts: pairs2::Th2p_reg2 },
+    Search { name: "region 2 (T,s) to p", region: 2, pair: Pair::Ts, bisection: false, ends: |t| (1.0e-8, highest(t)), property: r2::pT2s_reg2, copys: copy2::Ts2p_reg2, rusts: pairs2::Ts2p_reg2 },
+];
+
+/// The highest pressure of region 2 at t, beyond its range as the original has it: it keeps its own to itself.
+fn highest(t: f64) -> f64 {
+    if t >= 273.15 {
+        most(t)
+    } else {
+        B23_T2p(t)
+    }
+}
+
+/// The lowest temperature of region 2 at p, likewise.
+fn least(p: f64) -> f64 {
+    if p < 0.000611213 {
+        273.15
+    } else if p <= p_saturation(623.15) {
+        T_saturation(p)
+    } else {
+        B23_p2T(p)
+    }
+}
+
+impl Search {
+    pub fn seeks_t(&self) -> bool {
+        self.pair == Pair::Pv
+    }
+
+    pub fn ours(&self, fixed: f64, target: f64, limit: u32) -> Record {
+        climboat::search(self.pair, self.region, fixed, target, limit)
+    }
+
+    /// (p,T) of the input that is fixed and a point x of the search.
+    pub fn state(&self, fixed: f64, x: f64) -> (f64, f64) {
+        if self.seeks_t() {
+            (fixed, x)
+        } else {
+            (x, fixed)
+        }
+    }
+
+    /// The property at x, by the original.
+    pub fn at(&self, fixed: f64, x: f64) -> f64 {
+        let (p, t) = self.state(fixed, x);
+        (self.property)(p, t)
+    }
+
+    /// Whether the checks 1, 2, 3 and 4 let the inputs through.
+    pub fn passes(&self, fixed: f64, target: f64) -> bool {
+        let range = match (self.region, self.seeks_t()) {
+            (1, true) => 0.000611212677444..=100.0,
+            (1, false) => 273.15..=623.15,
+            (_, true) => 1.0e-8..=100.0,
+            (_, false) => 273.15..=1073.15,
+        };
+        let volume = matches!(self.pair, Pair::Pv | Pair::Tv);
+        range.contains(&fixed) && target.is_finite() && (target > 0.0 || !volume)
+    }
+
+    /// The (p,T) rule.
+    pub fn inside(&self, (p, t): (f64, f64)) -> bool {
+        if self.region == 1 {
+            (273.15..=623.15).contains(&t) && (p_saturation(t)..=100.0).contains(&p)
+        } else {
+            (273.15..=1073.15).contains(&t) && (1.0e-8..=100.0).contains(&p) && p <= most(t)
+        }
+    }
+
+    /// The input that is fixed and the point sought, of 50,000 states uniform in p, 50,000 logarithmic and 40,000 at corners and edges.
+    pub fn states(&self, draw: &mut Draw) -> Vec<(f64, f64)> {
+        let kinds = [0; 50_000].into_iter().chain([1; 50_000]).chain([2; 40_000]);
+        kinds.map(|kind| self.drawn(draw, kind)).collect()
+    }
+
+    pub fn drawn(&self, draw: &mut Draw, kind: u64) -> (f64, f64) {
+        let (p, t) = if self.region == 1 { region_1(draw, kind) } else { region_2(draw, kind) };
+        if self.seeks_t() {
+            (p, t)
+        } else {
+            (t, p)
+        }
+    }
+}

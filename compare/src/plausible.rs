@@ -1,0 +1,133 @@
+//! Plausible inputs of the public calls: over the ranges and around them, at their limits, and targets of real states.
+
+use crate::climboat::{self, Pair};
+use crate::draw::Draw;
+use crate::table::{Search, SEARCHES};
+
+/// Where document 01's ranges, boundaries and brackets change; the last is where region 1 (p,v) has an empty bracket.
+pub const PRESSURES: [f64; 9] = [1.0e-8, 0.000611212677, 0.000611212677444, 0.000611213, 16.52916425260451, 16.5291643, 22.064, 100.0, 6.112126774443457e-4];
+pub const TEMPERATURES: [f64; 5] = [273.15, 623.15, 647.096, 863.15, 1073.15];
+
+/// The one NaN that is drawn: the bits of a NaN that arithmetic makes are left open.
+pub const NAN: f64 = f64::from_bits(0x7ff8_0000_0000_0000);
+
+/// x itself, or as often one of the doubles next to it.
+pub fn beside(draw: &mut Draw, x: f64) -> f64 {
+    let places = one_of(draw, &[0, 0, 0, 0, -1, 1, -2, 2]);
+    let bits = x.to_bits().wrapping_add_signed(places);
+    if x.is_nan() {
+        NAN
+    } else {
+        f64::from_bits(bits)
+    }
+}
+
+/// Of nearly every magnitude alike, and without a library's logarithm: the same draw on every machine.
+pub fn magnitude(draw: &mut Draw, low: f64, high: f64) -> f64 {
+    f64::from_bits(low.to_bits() + draw.below(high.to_bits() - low.to_bits() + 1))
+}
+
+fn one_of<T: Copy>(draw: &mut Draw, list: &[T]) -> T {
+    list[draw.below(list.len() as u64) as usize]
+}
+
+pub fn pressure(draw: &mut Draw) -> f64 {
+    match draw.below(8) {
+        0 | 1 => draw.between(0.0, 101.0),
+        2..=4 => magnitude(draw, 1.0e-9, 120.0),
+        5 => {
+            let edge = one_of(draw, &PRESSURES);
+            beside(draw, edge)
+        }
+        6 => 0.000611212677444 * (1.0 + magnitude(draw, 1.0e-16, 1.0e-8)),
+        _ => {
+            let t = draw.between(273.15, 863.15);
+            let boundary = if t <= 623.15 { climboat::saturation_pressure(t) } else { climboat::b23_pressure(t) };
+            beside(draw, boundary)
+        }
+    }
+}
+
+pub fn temperature(draw: &mut Draw) -> f64 {
+    match draw.below(8) {
+        0..=2 => draw.between(272.0, 1075.0),
+        3..=5 => draw.between(273.15, 624.0),
+        6 => {
+            let edge = one_of(draw, &TEMPERATURES);
+            beside(draw, edge)
+        }
+        _ => {
+            let p = magnitude(draw, 0.0006, 22.1);
+            let t = climboat::saturation_temperature(p);
+            beside(draw, t)
+        }
+    }
+}
+
+/// A pressure and a temperature, one time in three where a region ends.
+pub fn state(draw: &mut Draw) -> (f64, f64) {
+    let t = temperature(draw);
+    let p = match draw.below(6) {
+        0 => beside(draw, climboat::saturation_pressure(t)),
+        1 => beside(draw, climboat::b23_pressure(t)),
+        _ => pressure(draw),
+    };
+    (p, t)
+}
+
+/// Of every four, three in the range of what is fixed.
+pub fn fixed(draw: &mut Draw, search: &Search) -> f64 {
+    let (low, high) = search.range().into_inner();
+    match draw.below(4) {
+        0 | 1 => magnitude(draw, low, high),
+        2 => draw.between(low, high),
+        _ if search.pair == Pair::Pv => pressure(draw),
+        _ => temperature(draw),
+    }
+}
+
+/// Mostly v, h or s of a point of the bracket or of an end, else one that is tiny, of its magnitude, or any.
+pub fn target(draw: &mut Draw, search: &Search, fixed: f64) -> f64 {
+    let (lower, upper) = (search.ends)(fixed);
+    let target = match draw.below(16) {
+        0..=4 => search.found(fixed, draw.between(lower, upper)),
+        5..=8 if 0.0 < lower && lower < upper => search.found(fixed, magnitude(draw, lower, upper)),
+        9 => beside(draw, search.found(fixed, lower)),
+        10 => beside(draw, search.found(fixed, upper)),
+        11 => draw.between(0.9, 1.1) * search.found(fixed, lower),
+        12 => draw.between(0.9, 1.1) * search.found(fixed, upper),
+        13 => f64::from_bits(draw.bits() >> (6 + draw.below(58))),
+        14 => f64::from_bits(draw.bits()),
+        _ => match search.pair {
+            Pair::Th => draw.between(-10.0, 4500.0),
+            Pair::Ts => draw.between(-0.1, 15.0),
+            _ => magnitude(draw, 0.0009, 6.0e7),
+        },
+    };
+    if target.is_nan() {
+        NAN
+    } else {
+        target
+    }
+}
+
+/// The two doubles of a pair, or a state.
+pub fn pair(draw: &mut Draw) -> (f64, f64) {
+    match draw.below(12) as usize {
+        n if n < SEARCHES.len() => {
+            let fixed = fixed(draw, &SEARCHES[n]);
+            (fixed, target(draw, &SEARCHES[n], fixed))
+        }
+        _ => state(draw),
+    }
+}
+
+/// The step limits that are recorded, any that a search may just meet, and any at all.
+pub fn limit(draw: &mut Draw) -> u32 {
+    match draw.below(12) {
+        n @ 0..=5 => [0, 1, 2, 5, 20, 20_001][n as usize],
+        6 => draw.below(40) as u32,
+        7 => (draw.bits() as u32) >> draw.below(32),
+        _ => 20_000,
+    }
+}

@@ -1,0 +1,243 @@
+//! The recorded answers: questions for the program `replay`, and what the second reading of the table over the test copy answers to each.
+
+use crate::climboat::{Line, Pair, Record, EXACT_END, INSIDE, SMALL_RESIDUAL, VALUE};
+use crate::draw::Draw;
+use crate::plausible::{self, beside, magnitude, NAN, PRESSURES, TEMPERATURES};
+use crate::question::{Question, LINES, PAIRS};
+use crate::table::{Search, SEARCHES};
+use std::collections::HashSet;
+use std::fs;
+
+const FOLDER: &str = "crates/replay";
+
+/// Step limits, each with how many drawn pairs it gets in every search.
+const LIMITS: [(u32, usize); 7] = [(0, 12), (1, 16), (2, 16), (5, 24), (20, 36), (20_000, 80), (20_001, 4)];
+
+/// Three NaN, among them one that signals, the infinities, both zeros, the least and the largest double of either sign, -1.
+const STRANGE: [u64; 12] = [
+    0x7ff8_0000_0000_0000,
+    0xfff8_0000_0000_0001,
+    0x7ff0_0000_0000_0001,
+    0x7ff0_0000_0000_0000,
+    0xfff0_0000_0000_0000,
+    0x0000_0000_0000_0000,
+    0x8000_0000_0000_0000,
+    0x0000_0000_0000_0001,
+    0x8000_0000_0000_0001,
+    0x7fef_ffff_ffff_ffff,
+    0xffef_ffff_ffff_ffff,
+    0xbff0_0000_0000_0000,
+];
+
+/// What is no input of `replay`, at the end of the list: a letter and a capital that are no digits, a wrong separator, an unknown call, and a line cut short.
+const BROKEN: [&str; 5] = [
+    "0x 1 1 00000 4008000000000000 4072c00000000000\n",
+    "01 1 1 00000 4008000000000000 4072C00000000000\n",
+    "01 1-1 00000 4008000000000000 4072c00000000000\n",
+    "0a 1 1 00000 4008000000000000 4072c00000000000\n",
+    "01 1 1 00000 4008000000000000 4072c0000000000",
+];
+
+/// `compare recorded` prints both files, with a folder it writes them there, with --check it compares them with those that are kept.
+pub fn command(words: &[&str]) -> bool {
+    let questions = questions();
+    let mut stdin: String = questions.iter().map(|question| question.digits() + "\n").collect();
+    let mut stdout: String = questions.iter().map(|question| format!("{}: {}\n", question.digits(), columns(&question.table()))).collect();
+    for (line, number) in BROKEN.iter().zip(questions.len() + 1..) {
+        stdin += line;
+        stdout += &format!("line {number}: not an input of replay\n");
+    }
+    match words {
+        [] => {
+            print!("{stdin}{stdout}");
+            true
+        }
+        ["--check"] => check("stdin", &stdin) & check("stdout", &stdout),
+        [folder] => write(folder, "stdin", &stdin) & write(folder, "stdout", &stdout),
+        _ => {
+            eprintln!("usage: compare recorded [FOLDER | --check]");
+            false
+        }
+    }
+}
+
+fn write(folder: &str, name: &str, text: &str) -> bool {
+    let path = format!("{folder}/{name}");
+    let written = fs::create_dir_all(folder).and_then(|()| fs::write(&path, text));
+    match written {
+        Ok(()) => println!("recorded: {} lines in {path}", text.lines().count()),
+        Err(ref error) => println!("recorded: {path}: {error}"),
+    }
+    written.is_ok()
+}
+
+/// Whether the file that is kept is the one that is made; if not, the first line that differs.
+fn check(name: &str, made: &str) -> bool {
+    let path = format!("{FOLDER}/{name}");
+    let kept = match fs::read_to_string(&path) {
+        Ok(kept) => kept,
+        Err(error) => {
+            println!("recorded: {path}: {error}");
+            return false;
+        }
+    };
+    let (old, new): (Vec<&str>, Vec<&str>) = (kept.split('\n').collect(), made.split('\n').collect());
+    if old == new {
+        println!("recorded: {} lines in {path}, the same when made again", made.lines().count());
+        return true;
+    }
+    let line = old.iter().zip(&new).take_while(|(a, b)| a == b).count();
+    let [old, new] = [old, new].map(|lines| lines.get(line).map_or("no line", |line| *line).to_string());
+    println!("recorded: {path} differs first in line {}: kept {old:?}, made {new:?}", line + 1);
+    false
+}
+
+/// A record as the programs write an answer, each double in the sixteen digits of its bits.
+fn columns(record: &Record) -> String {
+    let Record { number, reason, steps, mark, .. } = *record;
+    let [value, lower, upper] = record.doubles().map(|x| format!("{:016x}", x.to_bits()));
+    if number != 0 {
+        return format!("refused {number}, value {value}, steps {steps}, bracket {lower} {upper}");
+    }
+    let reason = match reason {
+        VALUE => return format!("value {value}"),
+        EXACT_END => "exact end",
+        SMALL_RESIDUAL => "small residual",
+        _ => "narrow",
+    };
+    let mark = if mark == INSIDE { "inside" } else { "outside" };
+    format!("{reason} {value}, steps {steps}, bracket {lower} {upper}, {mark}")
+}
+
+fn questions() -> Vec<Question> {
+    let mut draw = Draw::new(0x0c1b_0a70_0000_0043);
+    let mut list = readings();
+    list.extend(strange());
+    list.extend(unknown());
+    list.extend(properties(&mut draw));
+    list.extend(lines(&mut draw));
+    for search in &SEARCHES {
+        list.extend(edges(search));
+        list.extend(order(search));
+        for (limit, times) in LIMITS {
+            list.extend((0..times).map(|_| drawn(&mut draw, search, limit)));
+        }
+    }
+    let mut seen = HashSet::new();
+    list.retain(|question| seen.insert(question.digits()));
+    list
+}
+
+/// Document 01's readings 10 to 16.
+fn readings() -> Vec<Question> {
+    let warmest = f64::from_bits(623.15f64.to_bits() + 1);
+    let one = &SEARCHES[0];
+    let mut list = vec![
+        Question::Property(2, 1, 0.0, 300.0),
+        Question::Property(1, 1, 0.0, NAN),
+        Question::Property(1, 1, 50.0, 623.15),
+        Question::Property(1, 1, 50.0, warmest),
+        Question::Search(one.pair, 1, 100.0, one.found(100.0, 273.15), 20_000),
+        Question::Search(one.pair, 1, 1.0, 0.5 * (one.found(1.0, 277.0) + one.found(1.0, 273.15)), 20_000),
+    ];
+    list.extend([0.000611212677f64, 22.064].into_iter().flat_map(around).map(|p| Question::Line(Line::SaturationTemperature, p)));
+    list.extend(SEARCHES.iter().map(|search| {
+        let fixed = if search.pair == Pair::Pv { 1.0 } else { 500.0 };
+        let (lower, upper) = (search.ends)(fixed);
+        Question::Search(search.pair, search.region, fixed, search.found(fixed, 0.5 * (lower + upper)), 0)
+    }));
+    list
+}
+
+/// The double before, itself, and the double after.
+fn around(x: f64) -> [f64; 3] {
+    [x.to_bits() - 1, x.to_bits(), x.to_bits() + 1].map(f64::from_bits)
+}
+
+/// Each call with each strange double in each place.
+fn strange() -> Vec<Question> {
+    let mut list = Vec::new();
+    for x in STRANGE.map(f64::from_bits) {
+        list.extend(LINES.map(|line| Question::Line(line, x)));
+        for region in [1, 2] {
+            list.extend([(x, 500.0), (1.0, x)].map(|(p, t)| Question::Property(region, 1, p, t)));
+        }
+        for search in &SEARCHES {
+            let fixed = if search.pair == Pair::Pv { 1.0 } else { 500.0 };
+            list.extend([(x, 1.0), (fixed, x)].map(|(fixed, target)| Question::Search(search.pair, search.region, fixed, target, 20_000)));
+        }
+    }
+    list
+}
+
+/// Regions and properties that name nothing: `replay` has no call for them.
+fn unknown() -> Vec<Question> {
+    let mut list = Vec::new();
+    for number in [0, 3, 15] {
+        list.push(Question::Property(number, 1, 1.0, 500.0));
+        list.extend(PAIRS.map(|pair| Question::Search(pair, number, 1.0, 1.0, 20_000)));
+    }
+    list.extend([(1, 0), (2, 8), (1, 15)].map(|(region, property)| Question::Property(region, property, 1.0, 500.0)));
+    list
+}
+
+/// Every property at states inside its region, and at plausible ones.
+fn properties(draw: &mut Draw) -> Vec<Question> {
+    let mut list = Vec::new();
+    for (region, warmest) in [(1, 623.15), (2, 1073.15)] {
+        let by_t = SEARCHES.iter().rfind(|search| search.region == region).expect("a pair by T");
+        for property in 1..=7 {
+            for kind in 0..48 {
+                let t = draw.between(273.15, warmest);
+                let (least, most) = (by_t.ends)(t);
+                let (p, t) = match kind % 4 {
+                    0 => (draw.between(least, most), t),
+                    1 => (magnitude(draw, least, most), t),
+                    2 => (beside(draw, if region == 1 { least } else { most }), t),
+                    _ => plausible::state(draw),
+                };
+                list.push(Question::Property(region, property, p, t));
+            }
+        }
+    }
+    list
+}
+
+fn lines(draw: &mut Draw) -> Vec<Question> {
+    let mut list = Vec::new();
+    for (line, edges) in LINES.into_iter().zip([[273.15, 647.096], [0.000611212677, 22.064], [623.15, 863.15], [16.5291643, 100.0]]) {
+        let [low, high] = edges;
+        list.extend(edges.into_iter().flat_map(around).map(|x| Question::Line(line, x)));
+        for _ in 0..20 {
+            let any = if low > 100.0 { plausible::temperature(draw) } else { plausible::pressure(draw) };
+            list.extend([draw.between(low, high), magnitude(draw, low, high), any].map(|x| Question::Line(line, x)));
+        }
+    }
+    list
+}
+
+/// Both ends as answers, where the ranges and the brackets change.
+fn edges(search: &Search) -> Vec<Question> {
+    let fixed: &[f64] = if search.pair == Pair::Pv { &PRESSURES } else { &TEMPERATURES };
+    let ends = fixed.iter().flat_map(|&x| {
+        let (lower, upper) = (search.ends)(x);
+        [lower, upper].map(|end| Question::Search(search.pair, search.region, x, search.found(x, end), 20_000))
+    });
+    ends.collect()
+}
+
+/// Several refusals at once, so that their order shows.
+fn order(search: &Search) -> Vec<Question> {
+    let fixed = if search.pair == Pair::Pv { 1.0 } else { 500.0 };
+    let mut list = Vec::new();
+    for x in [NAN, 0.0, 2000.0, fixed] {
+        list.push(Question::Search(search.pair, search.region, x, -1.0, 20_001));
+        list.extend([NAN, -1.0, 0.0, -0.0, 5.0e-324].map(|target| Question::Search(search.pair, search.region, x, target, 20_000)));
+    }
+    list
+}
+
+fn drawn(draw: &mut Draw, search: &Search, limit: u32) -> Question {
+    let fixed = plausible::fixed(draw, search);
+    Question::Search(search.pair, search.region, fixed, plausible::target(draw, search, fixed), limit)
+}

@@ -1,0 +1,233 @@
+//! The refusal table, read a second time from document 01 and not from Climboat: what every public call gives, over the test copy's functions.
+
+use crate::climboat::{Line, Pair, Record, EXACT_END, INSIDE, OUTSIDE, VALUE};
+use copy::common::boundaries::{B23_T2p, B23_p2T};
+use copy::r1::region1_pT as r1;
+use copy::r1::region1_pair_ext as pairs1;
+use copy::r2::region2_pT as r2;
+use copy::r2::region2_pair_ext as pairs2;
+use copy::r4::region4_sat_pT::{T_saturation, p_saturation};
+use copy::run::Run;
+use std::ops::RangeInclusive;
+
+/// Of p and T, in this order.
+type Property = fn(f64, f64) -> f64;
+
+const LARGEST_LIMIT: u32 = 20_000;
+
+const NOTHING: Record = Record { number: 0, reason: 0, steps: 0, mark: 0, value: 0.0, lower: 0.0, upper: 0.0 };
+
+fn refused(number: u32) -> Record {
+    Record { number, ..NOTHING }
+}
+
+/// The result of a call that does not search.
+fn value(result: f64) -> Record {
+    if result.is_finite() {
+        Record { reason: VALUE, value: result, ..NOTHING }
+    } else {
+        refused(9)
+    }
+}
+
+pub fn line(line: Line, x: f64) -> Record {
+    let (range, number, formula): (_, _, fn(f64) -> f64) = match line {
+        Line::SaturationPressure => (273.15..=647.096, 2, p_saturation),
+        Line::SaturationTemperature => (0.000611212677..=22.064, 3, T_saturation),
+        Line::B23Pressure => (623.15..=863.15, 2, B23_T2p),
+        Line::B23Temperature => (16.5291643..=100.0, 3, B23_p2T),
+    };
+    if !x.is_finite() {
+        refused(1)
+    } else if !range.contains(&x) {
+        refused(number)
+    } else {
+        value(formula(x))
+    }
+}
+
+pub fn property(region: u32, property: u32, p: f64, t: f64) -> Record {
+    let properties: [Property; 7] = match region {
+        1 => [r1::pT2v_reg1, r1::pT2u_reg1, r1::pT2s_reg1, r1::pT2h_reg1, r1::pT2cp_reg1, r1::pT2cv_reg1, r1::pT2w_reg1],
+        2 => [r2::pT2v_reg2, r2::pT2u_reg2, r2::pT2s_reg2, r2::pT2h_reg2, r2::pT2cp_reg2, r2::pT2cv_reg2, r2::pT2w_reg2],
+        _ => return refused(21),
+    };
+    let Some(function) = (property as usize).checked_sub(1).and_then(|n| properties.get(n)) else {
+        return refused(21);
+    };
+    match state(region, p, t) {
+        0 => value(function(p, t)),
+        number => refused(number),
+    }
+}
+
+/// The (p,T) rule of a region: the number that refuses the state, 0 if it lies inside.
+fn state(region: u32, p: f64, t: f64) -> u32 {
+    if !p.is_finite() || !t.is_finite() {
+        return 1;
+    }
+    if !temperatures(region).contains(&t) {
+        return 2;
+    }
+    let boundary = boundary(t);
+    if !boundary.is_finite() {
+        return 9;
+    }
+    let inside = if region == 1 { boundary <= p && p <= 100.0 } else { 1.0e-8 <= p && p <= 100.0 && p <= boundary };
+    if inside {
+        0
+    } else {
+        3
+    }
+}
+
+fn temperatures(region: u32) -> RangeInclusive<f64> {
+    273.15..=if region == 1 { 623.15 } else { 1073.15 }
+}
+
+/// Where region 2 stops at t; up to 623.15, where region 1 begins.
+fn boundary(t: f64) -> f64 {
+    if t <= 623.15 {
+        p_saturation(t)
+    } else if t <= 863.15 {
+        B23_T2p(t)
+    } else {
+        100.0
+    }
+}
+
+/// One search: the input that is fixed, where it looks, and what it compares with its target.
+pub struct Search {
+    pub pair: Pair,
+    pub region: u32,
+    bisection: bool,
+    pub ends: fn(f64) -> (f64, f64),
+    property: Property,
+    run: fn(f64, f64, i32) -> Run,
+}
+
+#[rustfmt::skip]
+pub const SEARCHES: [Search; 8] = [
+    Search { pair: Pair::Pv, region: 1, bisection: true, ends: |p| (273.15, if p >= 16.5291643 { 623.15 } else { T_saturation(p) }), property: r1::pT2v_reg1, run: pairs1::pv2T_reg1 },
+    Search { pair: Pair::Pv, region: 2, bisection: false, ends: |p| (lowest_temperature(p), 1073.15), property: r2::pT2v_reg2, run: pairs2::pv2T_reg2 },
+    Search { pair: Pair::Tv, region: 1, bisection: false, ends: |t| (p_saturation(t), 100.0), property: r1::pT2v_reg1, run: pairs1::Tv2p_reg1 },
+    Search { pair: Pair::Tv, region: 2, bisection: true, ends: |_| (1.0e-8, 100.0), property: r2::pT2v_reg2, run: pairs2::Tv2p_reg2 },
+    Search { pair: Pair::Th, region: 1, bisection: false, ends: |t| (p_saturation(t), 100.0), property: r1::pT2h_reg1, run: pairs1::Th2p_reg1 },
+    Search { pair: Pair::Th, region: 2, bisection: false, ends: |_| (1.0e-8, 100.0), property: r2::pT2h_reg2, run: pairs2::Th2p_reg2 },
+    Search { pair: Pair::Ts, region: 1, bisection: false, ends: |t| (p_saturation(t), 100.0), property: r1::pT2s_reg1, run: pairs1::Ts2p_reg1 },
+    Search { pair: Pair::Ts, region: 2, bisection: false, ends: |t| (1.0e-8, boundary(t)), property: r2::pT2s_reg2, run: pairs2::Ts2p_reg2 },
+];
+
+fn lowest_temperature(p: f64) -> f64 {
+    if p < 0.000611213 {
+        273.15
+    } else if p <= p_saturation(623.15) {
+        T_saturation(p)
+    } else {
+        B23_p2T(p)
+    }
+}
+
+pub fn search(pair: Pair, region: u32, fixed: f64, target: f64, limit: u32) -> Record {
+    let Some(search) = SEARCHES.iter().find(|search| search.pair == pair && search.region == region) else {
+        return refused(21);
+    };
+    if let Some(number) = search.unfit(fixed, target, limit) {
+        return refused(number);
+    }
+    let (lower, upper) = (search.ends)(fixed);
+    let start = Record { lower, upper, ..NOTHING };
+    let opening = search.opening(fixed, target, start);
+    let Run { number, reason, value, steps, lower, upper } = (search.run)(fixed, target, limit as i32);
+    let run = Record { number, reason, steps, mark: 0, value, lower, upper };
+    let agree = opening.map_or_else(|| after_opening(&start, &run), |opening| opening.same(&run));
+    assert!(agree, "the test copy opens otherwise than the table at {:016x} {:016x}: {start:?}, {opening:?}, {run:?}", fixed.to_bits(), target.to_bits());
+    search.marked(fixed, opening.unwrap_or(run))
+}
+
+/// Whether a run is one that the steps decided, from the same bracket.
+fn after_opening(start: &Record, run: &Record) -> bool {
+    let within = start.lower <= run.lower && run.upper <= start.upper;
+    let still = start.lower == run.lower && run.upper == start.upper;
+    [0, 6, 8, 10].contains(&run.number) && run.reason != EXACT_END && within && (run.steps > 0 || still)
+}
+
+impl Search {
+    fn seeks_t(&self) -> bool {
+        self.pair == Pair::Pv
+    }
+
+    /// Of the input that is fixed.
+    pub fn range(&self) -> RangeInclusive<f64> {
+        match (self.seeks_t(), self.region) {
+            (false, region) => temperatures(region),
+            (true, 1) => 0.000611212677444..=100.0,
+            (true, _) => 1.0e-8..=100.0,
+        }
+    }
+
+    /// 11, 1, 2, 3 and 4: the inputs alone.
+    fn unfit(&self, fixed: f64, target: f64, limit: u32) -> Option<u32> {
+        if limit > LARGEST_LIMIT {
+            Some(11)
+        } else if !fixed.is_finite() || !target.is_finite() {
+            Some(1)
+        } else if !self.range().contains(&fixed) {
+            Some(if self.seeks_t() { 3 } else { 2 })
+        } else if matches!(self.pair, Pair::Pv | Pair::Tv) && target <= 0.0 {
+            Some(4)
+        } else {
+            None
+        }
+    }
+
+    /// 9, 5, 6 at an end, a zero at the lower end, a zero at the upper end, 7; none where the steps decide.
+    fn opening(&self, fixed: f64, target: f64, start: Record) -> Option<Record> {
+        let Record { lower, upper, .. } = start;
+        if !lower.is_finite() || !upper.is_finite() {
+            return Some(refused(9));
+        }
+        if lower >= upper {
+            return Some(refused(5));
+        }
+        let (at_lower, at_upper) = (self.residual(fixed, target, lower), self.residual(fixed, target, upper));
+        if !at_lower.is_finite() || !at_upper.is_finite() {
+            Some(Record { number: 6, ..start })
+        } else if at_lower == 0.0 {
+            Some(Record { reason: EXACT_END, value: lower, ..start })
+        } else if at_upper == 0.0 {
+            Some(Record { reason: EXACT_END, value: upper, ..start })
+        } else if (at_lower > 0.0) == (at_upper > 0.0) {
+            Some(refused(7))
+        } else {
+            None
+        }
+    }
+
+    /// v, h or s at the point x.
+    pub fn found(&self, fixed: f64, x: f64) -> f64 {
+        if self.seeks_t() {
+            (self.property)(fixed, x)
+        } else {
+            (self.property)(x, fixed)
+        }
+    }
+
+    fn residual(&self, fixed: f64, target: f64, x: f64) -> f64 {
+        let found = self.found(fixed, x);
+        if self.bisection {
+            (target - found) / target
+        } else {
+            target - found
+        }
+    }
+
+    fn marked(&self, fixed: f64, record: Record) -> Record {
+        if record.number != 0 {
+            return record;
+        }
+        let (p, t) = if self.seeks_t() { (fixed, record.value) } else { (record.value, fixed) };
+        let mark = if state(self.region, p, t) == 0 { INSIDE } else { OUTSIDE };
+        Record { mark, ..record }
+    }
+}

@@ -1,0 +1,42 @@
+-- `digits::digit` meets its contract: its tests are the definition's. Assumes nothing.
+use borrow.Author.Needs.{needs}
+use borrow.Author.Tests.{lt-ltb, le-ltb, le-leb, lt-leb}
+use Rattle.digits.specs.Digits.{digitOf}
+use Rattle.digits.proofs.digit.Statement.{statement}
+use Rattle.digits.proofs.digit.Tie as tie
+
+returns : tie.Need-returns
+unfolding digitOf
+returns c = rw (lt-ltb _ _ (c .if1 .taken))
+
+cast-result : tie.Need-cast-result
+cast-result c = search needs
+
+returns-2 : tie.Need-returns-2
+unfolding digitOf
+returns-2 c = rw (le-ltb _ _ (c .before .if1 .left), le-leb _ _ (c .if2 .taken))
+
+returns-3 : tie.Need-returns-3
+unfolding digitOf
+returns-3 c = rw (le-ltb _ _ (c .before .before .if1 .left), lt-leb _ _ (c .before .if2 .left), lt-ltb _ _ (c .if3 .taken))
+
+cast-result-2 : tie.Need-cast-result-2
+cast-result-2 c = search needs
+
+add-result : tie.Need-add-result
+add-result c = search needs
+
+returns-4 : tie.Need-returns-4
+unfolding digitOf
+returns-4 c =
+    rw (le-ltb _ _ (c .before .before .before .if1 .left), lt-leb _ _ (c .before .before .if2 .left), le-ltb _ _ (c .before .if3 .left), le-leb _ _ (c .if4 .taken))
+
+returns-5 : tie.Need-returns-5
+unfolding digitOf
+returns-5 c =
+    rw (le-ltb _ _ (c .before .before .before .if1 .left), lt-leb _ _ (c .before .before .if2 .left), le-ltb _ _ (c .before .if3 .left), lt-leb _ _ (c .if4 .left))
+
+pub digit-spec : {M : Type 1} → statement M
+digit-spec =
+    tie.close
+    (tie.spec returns cast-result returns-2 returns-3 cast-result-2 add-result returns-4 returns-5)
