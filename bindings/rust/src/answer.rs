@@ -1,0 +1,296 @@
+//! What a call answers: a reading with its reason, or a refusal with its number.
+use crate::archive::Record;
+use std::fmt;
+
+/// Why a value is an answer.
+#[non_exhaustive]
+#[derive(Clone, Copy, Debug, PartialEq, Eq, Hash)]
+pub enum Reason {
+    /// A call that does not search: the formula's own result.
+    Value,
+    /// The residual is zero at an end of the starting bracket.
+    ExactEnd,
+    /// The residual is below 1.0e-8 (bisection), or zero (Brent).
+    SmallResidual,
+    /// The bracket has become narrow enough.
+    Narrow,
+}
+
+impl fmt::Display for Reason {
+    fn fmt(&self, f: &mut fmt::Formatter<'_>) -> fmt::Result {
+        f.write_str(match self {
+            Reason::Value => "value",
+            Reason::ExactEnd => "exact end",
+            Reason::SmallResidual => "small residual",
+            Reason::Narrow => "narrow",
+        })
+    }
+}
+
+/// The two ends between which a search last looked, in the unit of what it finds.
+#[non_exhaustive]
+#[derive(Clone, Copy, Debug, PartialEq)]
+pub struct Bracket {
+    /// The lower end.
+    pub lower: f64,
+    /// The upper end.
+    pub upper: f64,
+}
+
+/// What a search says beside its value.
+#[non_exhaustive]
+#[derive(Clone, Copy, Debug, PartialEq)]
+pub struct Search {
+    /// The evaluations after the two ends.
+    pub steps: u32,
+    /// The bracket at the test that ended the search; for an exact end, the starting bracket.
+    pub bracket: Bracket,
+    /// Whether the found point lies inside the named region. A point outside is still an answer of the formula.
+    pub inside: bool,
+}
+
+/// An answer.
+#[non_exhaustive]
+#[derive(Clone, Copy, Debug, PartialEq)]
+pub struct Reading {
+    /// The value, in the unit of the property or of what the pair finds.
+    pub value: f64,
+    /// Why the value is an answer.
+    pub reason: Reason,
+    /// What the search says; nothing for a call that does not search.
+    pub search: Option<Search>,
+}
+
+/// Why there is no answer: document 01's refusals, and one of the interface.
+#[non_exhaustive]
+#[derive(Clone, Copy, Debug, PartialEq, Eq, Hash)]
+pub enum Cause {
+    /// 1: an input is NaN or infinite.
+    NotFinite,
+    /// 2: T is out of range.
+    TemperatureOutOfRange,
+    /// 3: p is out of range.
+    PressureOutOfRange,
+    /// 4: v is zero or below.
+    VolumeNotPositive,
+    /// 5: the lower end of the search is not below the upper end.
+    EmptyBracket,
+    /// 6: a residual that the search evaluated is not finite.
+    ResidualNotFinite,
+    /// 7: the residuals at both ends have the same sign. This is not "no such state".
+    SameSign,
+    /// 8: the steps are spent.
+    StepsSpent,
+    /// 9: a property, saturation or B23 result is not finite.
+    ResultNotFinite,
+    /// 10: the next point lies outside the bracket.
+    PointOutside,
+    /// 11: the step limit is above 20,000.
+    LimitTooLarge,
+    /// 21: a region or property number names nothing for this call.
+    NothingNamed,
+    /// A number that this version has no name for.
+    Unknown,
+}
+
+struct Row {
+    number: u32,
+    cause: Cause,
+    /// whether the refusal carries the steps taken and the last bracket
+    bracket: bool,
+    sentence: &'static str,
+}
+
+const fn row(number: u32, cause: Cause, bracket: bool, sentence: &'static str) -> Row {
+    Row {
+        number,
+        cause,
+        bracket,
+        sentence,
+    }
+}
+
+#[rustfmt::skip]
+const ROWS: [Row; 12] = [
+    row(1, Cause::NotFinite, false, "an input is NaN or infinite; give finite numbers"),
+    row(2, Cause::TemperatureOutOfRange, false, "the temperature is out of range for this region or line; check that it is in kelvin and that the region is the right one"),
+    row(3, Cause::PressureOutOfRange, false, "the pressure is out of range for this region or line, or for this region at this temperature; check that it is in MPa and that the region is the right one"),
+    row(4, Cause::VolumeNotPositive, false, "the volume is zero or below; give one above zero, in m^3/kg"),
+    row(5, Cause::EmptyBracket, false, "the lower end of the search is not below the upper end, so there is nothing to search; move the pressure away from the edge of the region"),
+    row(6, Cause::ResidualNotFinite, true, "a residual that the search evaluated is not finite; the target is too extreme, give one nearer to the region's own values"),
+    row(7, Cause::SameSign, false, "the residuals at both ends of the search have the same sign, so it cannot begin; this does not mean that there is no such state, as one or more may lie between the ends; check the region and the units, or look for the state by (p,T)"),
+    row(8, Cause::StepsSpent, true, "the steps are spent; the last point is no answer, give a larger step limit"),
+    row(9, Cause::ResultNotFinite, false, "a property, saturation or B23 result is not finite, so there is no number to give; ask for another state"),
+    row(10, Cause::PointOutside, true, "the next point of the search lies outside its bracket, so it cannot go on; the bracket is as far as it came, ask for the state by another pair"),
+    row(11, Cause::LimitTooLarge, false, "the step limit is above 20,000; give one from 0 to 20,000"),
+    row(21, Cause::NothingNamed, false, "the region or the property is not one that this call knows; name another"),
+];
+
+/// No answer: the refusal's number, and where the search was when it gave up.
+///
+/// It shows itself as a sentence that says what the number means and what to do.
+#[non_exhaustive]
+#[derive(Clone, Copy, Debug, PartialEq)]
+pub struct Refusal {
+    /// The number of document 01's table, or 21.
+    pub number: u32,
+    /// The last point for 8, else 0.
+    pub value: f64,
+    /// The steps taken for 6, 8 and 10, else 0.
+    pub steps: u32,
+    /// The last bracket for 6, 8 and 10, else 0 and 0.
+    pub bracket: Bracket,
+}
+
+impl Refusal {
+    fn row(&self) -> Option<&'static Row> {
+        ROWS.iter().find(|row| row.number == self.number)
+    }
+
+    /// The number by name.
+    pub fn cause(&self) -> Cause {
+        self.row().map_or(Cause::Unknown, |row| row.cause)
+    }
+
+    /// What the number means, and what to do.
+    pub fn sentence(&self) -> &'static str {
+        self.row().map_or(
+            "this version has no sentence for this number; see the table of refusals",
+            |row| row.sentence,
+        )
+    }
+
+    /// Whether the refusal carries the steps taken and the last bracket.
+    pub fn has_bracket(&self) -> bool {
+        self.row().is_some_and(|row| row.bracket)
+    }
+
+    /// The last point, which is no answer, where the steps are spent.
+    pub fn last_point(&self) -> Option<f64> {
+        (self.cause() == Cause::StepsSpent).then_some(self.value)
+    }
+}
+
+impl fmt::Display for Refusal {
+    fn fmt(&self, f: &mut fmt::Formatter<'_>) -> fmt::Result {
+        write!(f, "refused by {}: {}", self.number, self.sentence())?;
+        if self.has_bracket() {
+            write!(
+                f,
+                "; steps {}, bracket {:?} to {:?}",
+                self.steps, self.bracket.lower, self.bracket.upper
+            )?;
+        }
+        if let Some(point) = self.last_point() {
+            write!(f, ", last point {point:?}")?;
+        }
+        Ok(())
+    }
+}
+
+impl std::error::Error for Refusal {}
+
+impl Record {
+    /// The record as an answer or a refusal.
+    pub fn read(self) -> Result<Reading, Refusal> {
+        let [number, reason, steps, mark] = self.numbers;
+        let [value, lower, upper] = self.doubles;
+        let bracket = Bracket { lower, upper };
+        if number != 0 {
+            return Err(Refusal {
+                number,
+                value,
+                steps,
+                bracket,
+            });
+        }
+        let reason = match reason {
+            2 => Reason::ExactEnd,
+            3 => Reason::SmallResidual,
+            4 => Reason::Narrow,
+            _ => {
+                return Ok(Reading {
+                    value,
+                    reason: Reason::Value,
+                    search: None,
+                })
+            }
+        };
+        Ok(Reading {
+            value,
+            reason,
+            search: Some(Search {
+                steps,
+                bracket,
+                inside: mark == 1,
+            }),
+        })
+    }
+}
+
+#[cfg(test)]
+mod tests {
+    use super::*;
+
+    fn refusal(number: u32) -> Refusal {
+        let record = Record {
+            numbers: [number, 0, 3, 0],
+            doubles: [1.5, 1.0, 2.0],
+        };
+        record.read().unwrap_err()
+    }
+
+    #[test]
+    fn every_number_of_the_table_has_its_own_cause_and_sentence() {
+        let numbers: Vec<u32> = (1..=11).chain([21]).collect();
+        for &number in &numbers {
+            assert_ne!(refusal(number).cause(), Cause::Unknown, "{number}");
+            for &other in numbers.iter().filter(|&&other| other != number) {
+                assert_ne!(
+                    refusal(number).cause(),
+                    refusal(other).cause(),
+                    "{number} and {other}"
+                );
+                assert_ne!(
+                    refusal(number).sentence(),
+                    refusal(other).sentence(),
+                    "{number} and {other}"
+                );
+            }
+        }
+    }
+
+    #[test]
+    fn a_number_that_is_not_named_yet_is_still_a_refusal() {
+        for number in [12, 13, 14, 20, u32::MAX] {
+            assert_eq!(refusal(number).cause(), Cause::Unknown);
+            assert!(refusal(number)
+                .to_string()
+                .starts_with(&format!("refused by {number}: ")));
+        }
+    }
+
+    #[test]
+    fn steps_and_bracket_are_shown_where_the_table_gives_them() {
+        for number in (1..=11).chain([21]) {
+            let shown = refusal(number).to_string();
+            assert_eq!(
+                shown.ends_with("; steps 3, bracket 1.0 to 2.0"),
+                [6, 10].contains(&number),
+                "{shown}"
+            );
+            assert_eq!(
+                shown.ends_with("; steps 3, bracket 1.0 to 2.0, last point 1.5"),
+                number == 8,
+                "{shown}"
+            );
+        }
+    }
+
+    #[test]
+    fn seven_says_that_a_state_may_exist() {
+        assert!(refusal(7)
+            .sentence()
+            .contains("does not mean that there is no such state"));
+    }
+}

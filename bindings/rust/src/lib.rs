@@ -1,0 +1,129 @@
+//! Climboat for Rust: properties of water and steam by IAPWS-IF97, regions 1 and 2, the saturation line and B23, or a refusal by number.
+//!
+//! Every call is one call of Climboat's proved archive. It takes any doubles and any step limit, and answers a [`Reading`] or a [`Refusal`]; it never panics.
+//! Units: MPa, K, m^3/kg, kJ/kg, kJ/(kg K), m/s. The caller always names the region.
+//!
+//! ```
+//! use climboat::{property, pv2t, Property, Reason, Region, STEP_LIMIT};
+//!
+//! let volume = property(Region::One, Property::Volume, 3.0, 300.0)?;
+//! assert_eq!(format!("{:.8e}", volume.value), "1.00215168e-3");
+//!
+//! let temperature = pv2t(Region::One, 3.0, volume.value, STEP_LIMIT)?;
+//! assert!((temperature.value - 300.0).abs() < 1.0e-4);
+//! assert_eq!(temperature.reason, Reason::SmallResidual);
+//! assert!(temperature.search.is_some_and(|search| search.inside));
+//! # Ok::<(), climboat::Refusal>(())
+//! ```
+//!
+//! A refusal is an error with a sentence:
+//!
+//! ```
+//! use climboat::{property, Cause, Property, Region};
+//!
+//! let refusal = property(Region::Two, Property::Volume, 0.0, 300.0).unwrap_err();
+//! assert_eq!(refusal.number, 3);
+//! assert_eq!(refusal.cause(), Cause::PressureOutOfRange);
+//! assert!(refusal.to_string().starts_with("refused by 3: the pressure is out of range"));
+//! ```
+#![deny(missing_docs)]
+#![deny(unsafe_code)]
+
+mod answer;
+mod archive;
+mod choices;
+
+pub use answer::{Bracket, Cause, Reading, Reason, Refusal, Search};
+pub use choices::{Pair, Property, Region};
+
+/// The step limit that the vessels use. A larger one is refused by 11.
+pub const STEP_LIMIT: u32 = 20_000;
+
+/// A property of the named region at p and T.
+///
+/// ```
+/// use climboat::{property, Property, Region};
+///
+/// let speed = property(Region::Two, Property::SpeedOfSound, 0.0035, 300.0)?;
+/// assert_eq!(format!("{:.6} {}", speed.value, Property::SpeedOfSound.unit()), "427.920172 m/s");
+/// # Ok::<(), climboat::Refusal>(())
+/// ```
+pub fn property(region: Region, property: Property, p: f64, t: f64) -> Result<Reading, Refusal> {
+    archive::property(region.number(), property.number(), p, t).read()
+}
+
+/// The pressure of the saturation line at T, from 273.15 to 647.096 K.
+pub fn saturation_pressure(t: f64) -> Result<Reading, Refusal> {
+    archive::saturation_pressure(t).read()
+}
+
+/// The temperature of the saturation line at p, from 0.000611212677 to 22.064 MPa.
+///
+/// ```
+/// let boiling = climboat::saturation_temperature(0.1)?;
+/// assert_eq!(format!("{:.6}", boiling.value), "372.755919");
+/// # Ok::<(), climboat::Refusal>(())
+/// ```
+pub fn saturation_temperature(p: f64) -> Result<Reading, Refusal> {
+    archive::saturation_temperature(p).read()
+}
+
+/// The pressure of B23, the boundary between regions 2 and 3, at T from 623.15 to 863.15 K.
+pub fn b23_pressure(t: f64) -> Result<Reading, Refusal> {
+    archive::b23_pressure(t).read()
+}
+
+/// The temperature of B23 at p, from 16.5291643 to 100 MPa.
+pub fn b23_temperature(p: f64) -> Result<Reading, Refusal> {
+    archive::b23_temperature(p).read()
+}
+
+/// Searches a region for the state with this pair: the first of the pair is fixed, the second is the target.
+///
+/// A found point may lie outside the region: [`Search::inside`] says so.
+///
+/// ```
+/// use climboat::{search, Cause, Pair, Region};
+///
+/// let refusal = search(Pair::Ts, Region::Two, 500.0, 7.2, 0).unwrap_err();
+/// assert_eq!(refusal.cause(), Cause::StepsSpent);
+/// assert_eq!((refusal.steps, refusal.bracket.lower), (0, 1.0e-8));
+/// ```
+pub fn search(
+    pair: Pair,
+    region: Region,
+    fixed: f64,
+    target: f64,
+    limit: u32,
+) -> Result<Reading, Refusal> {
+    match pair {
+        Pair::Pv => pv2t(region, fixed, target, limit),
+        Pair::Tv => tv2p(region, fixed, target, limit),
+        Pair::Th => th2p(region, fixed, target, limit),
+        Pair::Ts => ts2p(region, fixed, target, limit),
+    }
+}
+
+/// (p,v) to T: p from 0.000611212677444 (region 1) or 1.0e-8 (region 2) to 100 MPa, v above zero.
+pub fn pv2t(region: Region, p: f64, v: f64, limit: u32) -> Result<Reading, Refusal> {
+    archive::pv2t(region.number(), p, v, limit).read()
+}
+
+/// (T,v) to p: T from 273.15 to 623.15 (region 1) or 1073.15 K (region 2), v above zero.
+pub fn tv2p(region: Region, t: f64, v: f64, limit: u32) -> Result<Reading, Refusal> {
+    archive::tv2p(region.number(), t, v, limit).read()
+}
+
+/// (T,h) to p: T as for [`tv2p`], h any finite number.
+pub fn th2p(region: Region, t: f64, h: f64, limit: u32) -> Result<Reading, Refusal> {
+    archive::th2p(region.number(), t, h, limit).read()
+}
+
+/// (T,s) to p: T as for [`tv2p`], s any finite number.
+pub fn ts2p(region: Region, t: f64, s: f64, limit: u32) -> Result<Reading, Refusal> {
+    archive::ts2p(region.number(), t, s, limit).read()
+}
+
+#[cfg(doctest)]
+#[doc = include_str!("../../../docs/FROM-SEUIF97.md")]
+struct FromSeuif97;

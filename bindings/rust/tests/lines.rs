@@ -1,0 +1,168 @@
+//! The command with --lines: an output line for each input line, whatever stands there.
+mod run;
+
+use run::{command, fed, run};
+use std::io::{BufRead, BufReader, Write};
+use std::process::Stdio;
+use std::sync::mpsc;
+use std::thread;
+use std::time::Duration;
+
+/// An answer of one request, as --lines has it.
+fn joined(line: &str) -> String {
+    let out = run(line).out;
+    let lines: Vec<String> = out
+        .lines()
+        .map(|line| line.split_whitespace().collect::<Vec<_>>().join(" "))
+        .collect();
+    lines.join("; ")
+}
+
+#[test]
+fn each_line_is_answered_in_its_place() {
+    let asked = [
+        "1 pT v 3 300",
+        "2 Ts 500 7.2 --limit 40",
+        "sat T 1",
+        "2 Ts 500 7.2 --limit 2",
+        "2 pT v 0 300",
+    ];
+    let answered = fed("--lines", asked.join("\n").as_bytes());
+    assert_eq!(
+        answered.out.lines().map(str::to_string).collect::<Vec<_>>(),
+        asked.map(joined)
+    );
+    assert_eq!((answered.status, answered.err.as_str()), (1, ""));
+}
+
+#[test]
+fn the_status_is_that_of_the_worst_line() {
+    assert_eq!(fed("--lines", b"").status, 0);
+    assert_eq!(fed("--lines", b"sat T 1\n# sat T 99\n\n").status, 0);
+    assert_eq!(fed("--lines", b"sat T 99\nsat T 1\n").status, 1);
+    assert_eq!(fed("--lines", b"sat T x\nsat T 99\nsat T 1\n").status, 2);
+}
+
+#[test]
+fn blank_lines_and_remarks_are_passed_through() {
+    let answered = fed("--lines", b"# one\n\n \t\nsat T 1\n#\xff\n");
+    let lines: Vec<&str> = answered.out.lines().collect();
+    assert_eq!(
+        lines,
+        ["# one", "", " \t", joined("sat T 1").as_str(), "#\u{fffd}"]
+    );
+}
+
+#[test]
+fn a_bad_line_is_named_and_stops_nothing() {
+    let long = format!("sat T {}\n", "1".repeat(100_000));
+    let input = [
+        b"sat T\n".as_slice(),
+        b"\xff\xfe 1\n",
+        long.as_bytes(),
+        b"--help\n",
+        b"--lines\n",
+        b"sat T 1",
+    ]
+    .concat();
+    let answered = fed("--lines", &input);
+    let lines: Vec<&str> = answered.out.lines().collect();
+    let bad = [
+        "bad line 1: a word is missing: the number p",
+        "bad line 2: word 1, \"\u{fffd}\u{fffd}\", is no region or line",
+        "bad line 3: longer than 4096 bytes",
+        "bad line 4: word 1, \"--help\", is no option of a request",
+        "bad line 5: word 1, \"--lines\", is no option of a request",
+    ];
+    for (line, start) in lines.iter().zip(bad) {
+        assert!(line.starts_with(start), "{line}");
+    }
+    assert_eq!(lines[5..], [joined("sat T 1")]);
+    assert_eq!((answered.status, answered.err.as_str()), (2, ""));
+}
+
+#[test]
+fn a_line_of_4096_bytes_is_read_and_one_of_4097_is_not() {
+    let padded = |length: usize| format!("{:<length$}\n", "sat T 1");
+    let answered = fed(
+        "--lines",
+        (padded(4096) + &padded(4097) + &padded(4096)).as_bytes(),
+    );
+    let answer = joined("sat T 1");
+    assert_eq!(
+        answered.out,
+        format!("{answer}\nbad line 2: longer than 4096 bytes\n{answer}\n")
+    );
+}
+
+#[test]
+fn carriage_returns_and_spaces_do_not_matter() {
+    let answer = joined("1 pT v 3 300");
+    assert_eq!(
+        fed("--lines", b"1 pT v 3 300\r\n  1\tpT  v 3 300  \n").out,
+        format!("{answer}\n{answer}\n")
+    );
+}
+
+#[test]
+fn bits_for_all_lines_or_for_one() {
+    let exact = "1 pT v 4008000000000000 4072c00000000000";
+    let answer = joined(&format!("{exact} --bits"));
+    let all = fed(
+        "--lines --bits",
+        format!("{exact}\n{exact} --bits\n").as_bytes(),
+    );
+    assert_eq!(all.out, format!("{answer}\n{answer}\n"));
+    let one = fed(
+        "--lines",
+        format!("{exact} --bits\n1 pT v 3 300\n").as_bytes(),
+    );
+    assert_eq!(one.out, format!("{answer}\n{}\n", joined("1 pT v 3 300")));
+}
+
+#[test]
+fn an_answer_comes_before_the_next_question() {
+    let mut child = command()
+        .arg("--lines")
+        .stdin(Stdio::piped())
+        .stdout(Stdio::piped())
+        .spawn()
+        .unwrap();
+    let mut asks = child.stdin.take().unwrap();
+    let out = BufReader::new(child.stdout.take().unwrap());
+    let (tell, told) = mpsc::channel();
+    let reader = thread::spawn(move || {
+        out.lines()
+            .for_each(|line| tell.send(line.unwrap()).unwrap());
+    });
+    for question in ["sat T 1", "sat p 500"] {
+        writeln!(asks, "{question}").unwrap();
+        // one that keeps its answer back would never give it
+        let answer = told.recv_timeout(Duration::from_secs(20));
+        assert_eq!(answer, Ok(joined(question)));
+    }
+    drop(asks);
+    assert!(child.wait().unwrap().success());
+    reader.join().unwrap();
+}
+
+#[test]
+fn a_reader_that_goes_away_ends_it_quietly() {
+    let mut child = command()
+        .arg("--lines")
+        .stdin(Stdio::piped())
+        .stdout(Stdio::piped())
+        .stderr(Stdio::piped())
+        .spawn()
+        .unwrap();
+    drop(child.stdout.take());
+    let mut asks = child.stdin.take().unwrap();
+    // it may end before all is asked
+    let _ = asks.write_all("sat T 1\n".repeat(20_000).as_bytes());
+    drop(asks);
+    let output = child.wait_with_output().unwrap();
+    assert_eq!(
+        (output.status.code(), output.stderr.as_slice()),
+        (Some(0), b"".as_slice())
+    );
+}
