@@ -29,11 +29,11 @@ enum climboat_property {
 
 /* Why a value is given. */
 enum climboat_reason {
-    CLIMBOAT_NO_REASON = 0,     /* a refusal */
-    CLIMBOAT_VALUE = 1,         /* the call does not search */
-    CLIMBOAT_EXACT_END = 2,     /* the residual at an end of the bracket is zero */
+    CLIMBOAT_NO_REASON = 0,      /* a refusal */
+    CLIMBOAT_VALUE = 1,          /* the call does not search */
+    CLIMBOAT_EXACT_END = 2,      /* the residual at an end of the bracket is zero */
     CLIMBOAT_SMALL_RESIDUAL = 3, /* the residual is within its tolerance */
-    CLIMBOAT_NARROW = 4         /* the bracket is within its tolerance */
+    CLIMBOAT_NARROW = 4          /* the bracket is within its tolerance */
 };
 
 /* Whether a found value lies inside its region by the (p,T) rule; outside is still an answer. */
@@ -45,19 +45,19 @@ enum climboat_mark {
 
 /* The numbers of refusals. */
 enum climboat_refusal {
-    CLIMBOAT_ANSWERED = 0,             /* no refusal */
-    CLIMBOAT_NOT_FINITE = 1,           /* an input is NaN or infinite */
-    CLIMBOAT_T_OUT_OF_RANGE = 2,       /* the temperature is out of range */
-    CLIMBOAT_P_OUT_OF_RANGE = 3,       /* the pressure is out of range */
-    CLIMBOAT_V_NOT_POSITIVE = 4,       /* the volume is not above zero */
-    CLIMBOAT_EMPTY_BRACKET = 5,        /* the lower end is not below the upper end */
-    CLIMBOAT_RESIDUAL_NOT_FINITE = 6,  /* a residual that was evaluated is not finite */
-    CLIMBOAT_SAME_SIGN = 7,            /* both ends have residuals of one sign; it does not mean that there is no such state */
-    CLIMBOAT_STEPS_SPENT = 8,          /* the step limit was reached; value is the last point, not an answer */
-    CLIMBOAT_RESULT_NOT_FINITE = 9,    /* a property, saturation or B23 result is not finite */
-    CLIMBOAT_POINT_OUTSIDE = 10,       /* the next point is outside the bracket */
-    CLIMBOAT_LIMIT_TOO_LARGE = 11,     /* the step limit is above CLIMBOAT_STEP_LIMIT */
-    CLIMBOAT_NOTHING_NAMED = 21        /* the number given for a region or a property names nothing */
+    CLIMBOAT_ANSWERED = 0,            /* no refusal */
+    CLIMBOAT_NOT_FINITE = 1,          /* an input is NaN or infinite */
+    CLIMBOAT_T_OUT_OF_RANGE = 2,      /* the temperature is out of range */
+    CLIMBOAT_P_OUT_OF_RANGE = 3,      /* the pressure is out of range */
+    CLIMBOAT_V_NOT_POSITIVE = 4,      /* the volume is not above zero */
+    CLIMBOAT_EMPTY_BRACKET = 5,       /* the lower end is not below the upper end */
+    CLIMBOAT_RESIDUAL_NOT_FINITE = 6, /* a residual that was evaluated is not finite */
+    CLIMBOAT_SAME_SIGN = 7,           /* both ends have residuals of one sign; it does not mean that there is no such state */
+    CLIMBOAT_STEPS_SPENT = 8,         /* the step limit was reached; value is the last point, not an answer */
+    CLIMBOAT_RESULT_NOT_FINITE = 9,   /* a property, saturation or B23 result is not finite */
+    CLIMBOAT_POINT_OUTSIDE = 10,      /* the next point is outside the bracket */
+    CLIMBOAT_LIMIT_TOO_LARGE = 11,    /* the step limit is above CLIMBOAT_STEP_LIMIT */
+    CLIMBOAT_NOTHING_NAMED = 21       /* the number given for a region or a property names nothing */
 };
 
 /* The largest step limit, and the one that the vessels use. */
@@ -85,98 +85,95 @@ void climboat_Tv2p_record(uint32_t region, double T, double v, uint32_t limit, u
 void climboat_Th2p_record(uint32_t region, double T, double h, uint32_t limit, uint32_t numbers[4], double doubles[3]);
 void climboat_Ts2p_record(uint32_t region, double T, double s, uint32_t limit, uint32_t numbers[4], double doubles[3]);
 
-static inline struct climboat_answer climboat_answer_of(const uint32_t numbers[4], const double doubles[3])
+/* What a call is lent, and what it wrote there as an answer. */
+struct climboat_record {
+    uint32_t numbers[4];
+    double doubles[3];
+};
+
+static inline struct climboat_answer climboat_answer_of(const struct climboat_record *record)
 {
     struct climboat_answer answer;
-    answer.number = numbers[0];
-    answer.reason = numbers[1];
-    answer.steps = numbers[2];
-    answer.mark = numbers[3];
-    answer.value = doubles[0];
-    answer.lower = doubles[1];
-    answer.upper = doubles[2];
+    answer.number = record->numbers[0];
+    answer.reason = record->numbers[1];
+    answer.steps = record->numbers[2];
+    answer.mark = record->numbers[3];
+    answer.value = record->doubles[0];
+    answer.lower = record->doubles[1];
+    answer.upper = record->doubles[2];
     return answer;
 }
 
 /* A property (enum climboat_property) of a region (enum climboat_region) at p in MPa and T in K. */
 static inline struct climboat_answer climboat_pT(uint32_t region, uint32_t property, double p, double T)
 {
-    uint32_t numbers[4];
-    double doubles[3];
-    climboat_pT_record(region, property, p, T, numbers, doubles);
-    return climboat_answer_of(numbers, doubles);
+    struct climboat_record record;
+    climboat_pT_record(region, property, p, T, record.numbers, record.doubles);
+    return climboat_answer_of(&record);
 }
 
 /* The saturation pressure in MPa at T in K, from 273.15 to 647.096 K. */
 static inline struct climboat_answer climboat_saturation_pressure(double T)
 {
-    uint32_t numbers[4];
-    double doubles[3];
-    climboat_saturation_pressure_record(T, numbers, doubles);
-    return climboat_answer_of(numbers, doubles);
+    struct climboat_record record;
+    climboat_saturation_pressure_record(T, record.numbers, record.doubles);
+    return climboat_answer_of(&record);
 }
 
 /* The saturation temperature in K at p in MPa, from 0.000611212677 to 22.064 MPa. */
 static inline struct climboat_answer climboat_saturation_temperature(double p)
 {
-    uint32_t numbers[4];
-    double doubles[3];
-    climboat_saturation_temperature_record(p, numbers, doubles);
-    return climboat_answer_of(numbers, doubles);
+    struct climboat_record record;
+    climboat_saturation_temperature_record(p, record.numbers, record.doubles);
+    return climboat_answer_of(&record);
 }
 
 /* The pressure in MPa of the boundary B23 at T in K, from 623.15 to 863.15 K. */
 static inline struct climboat_answer climboat_B23_pressure(double T)
 {
-    uint32_t numbers[4];
-    double doubles[3];
-    climboat_B23_pressure_record(T, numbers, doubles);
-    return climboat_answer_of(numbers, doubles);
+    struct climboat_record record;
+    climboat_B23_pressure_record(T, record.numbers, record.doubles);
+    return climboat_answer_of(&record);
 }
 
 /* The temperature in K of the boundary B23 at p in MPa, from 16.5291643 to 100 MPa. */
 static inline struct climboat_answer climboat_B23_temperature(double p)
 {
-    uint32_t numbers[4];
-    double doubles[3];
-    climboat_B23_temperature_record(p, numbers, doubles);
-    return climboat_answer_of(numbers, doubles);
+    struct climboat_record record;
+    climboat_B23_temperature_record(p, record.numbers, record.doubles);
+    return climboat_answer_of(&record);
 }
 
 /* (p,v) to T: the temperature in K at p in MPa and v in m^3/kg, in at most limit steps. */
 static inline struct climboat_answer climboat_pv2T(uint32_t region, double p, double v, uint32_t limit)
 {
-    uint32_t numbers[4];
-    double doubles[3];
-    climboat_pv2T_record(region, p, v, limit, numbers, doubles);
-    return climboat_answer_of(numbers, doubles);
+    struct climboat_record record;
+    climboat_pv2T_record(region, p, v, limit, record.numbers, record.doubles);
+    return climboat_answer_of(&record);
 }
 
 /* (T,v) to p: the pressure in MPa at T in K and v in m^3/kg, in at most limit steps. */
 static inline struct climboat_answer climboat_Tv2p(uint32_t region, double T, double v, uint32_t limit)
 {
-    uint32_t numbers[4];
-    double doubles[3];
-    climboat_Tv2p_record(region, T, v, limit, numbers, doubles);
-    return climboat_answer_of(numbers, doubles);
+    struct climboat_record record;
+    climboat_Tv2p_record(region, T, v, limit, record.numbers, record.doubles);
+    return climboat_answer_of(&record);
 }
 
 /* (T,h) to p: the pressure in MPa at T in K and h in kJ/kg, in at most limit steps. */
 static inline struct climboat_answer climboat_Th2p(uint32_t region, double T, double h, uint32_t limit)
 {
-    uint32_t numbers[4];
-    double doubles[3];
-    climboat_Th2p_record(region, T, h, limit, numbers, doubles);
-    return climboat_answer_of(numbers, doubles);
+    struct climboat_record record;
+    climboat_Th2p_record(region, T, h, limit, record.numbers, record.doubles);
+    return climboat_answer_of(&record);
 }
 
 /* (T,s) to p: the pressure in MPa at T in K and s in kJ/(kg K), in at most limit steps. */
 static inline struct climboat_answer climboat_Ts2p(uint32_t region, double T, double s, uint32_t limit)
 {
-    uint32_t numbers[4];
-    double doubles[3];
-    climboat_Ts2p_record(region, T, s, limit, numbers, doubles);
-    return climboat_answer_of(numbers, doubles);
+    struct climboat_record record;
+    climboat_Ts2p_record(region, T, s, limit, record.numbers, record.doubles);
+    return climboat_answer_of(&record);
 }
 
 /* Whether the answer is a value, and not a refusal. */

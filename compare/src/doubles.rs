@@ -7,8 +7,8 @@ use crate::question::{Question, LINES, PAIRS};
 use std::ops::RangeInclusive;
 use std::thread;
 
-/// Pairs of each kind if no number is given, for the test command; the full run has 10,000,000.
-const HOW_MANY: u64 = 4_000_000;
+/// Pairs of each kind if no number is given.
+const HOW_MANY: u64 = 10_000_000;
 
 /// Pairs from one seed, so that a shorter run is the beginning of a longer one and the threads do not matter.
 const BLOCK: u64 = 10_000;
