@@ -2,58 +2,21 @@
 // without the original crate the equations and the searches have nothing to be compared with
 #![cfg_attr(not(feature = "original"), allow(dead_code))]
 
-#[allow(non_snake_case)]
-mod archive {
-    extern "C" {
-        pub fn float_abs(x: f64) -> f64;
-        pub fn float_min(x: f64, y: f64) -> f64;
-        pub fn float_copysign(x: f64, y: f64) -> f64;
-        pub fn float_same_sign(a: f64, b: f64) -> bool;
-        pub fn float_is_finite(x: f64) -> bool;
-        pub fn float_powi(x: f64, n: i32) -> f64;
-        pub fn float_sqrt(x: f64) -> f64;
-        pub fn float_fourth_root(x: f64) -> f64;
-        pub fn float_ln(x: f64) -> f64;
-        pub fn region1_v(p: f64, t: f64) -> f64;
-        pub fn region1_u(p: f64, t: f64) -> f64;
-        pub fn region1_s(p: f64, t: f64) -> f64;
-        pub fn region1_h(p: f64, t: f64) -> f64;
-        pub fn region1_cp(p: f64, t: f64) -> f64;
-        pub fn region1_cv(p: f64, t: f64) -> f64;
-        pub fn region1_w(p: f64, t: f64) -> f64;
-        pub fn region2_v(p: f64, t: f64) -> f64;
-        pub fn region2_u(p: f64, t: f64) -> f64;
-        pub fn region2_s(p: f64, t: f64) -> f64;
-        pub fn region2_h(p: f64, t: f64) -> f64;
-        pub fn region2_cp(p: f64, t: f64) -> f64;
-        pub fn region2_cv(p: f64, t: f64) -> f64;
-        pub fn region2_w(p: f64, t: f64) -> f64;
-        pub fn saturation_pressure(t: f64) -> f64;
-        pub fn saturation_temperature(p: f64) -> f64;
-        pub fn b23_pressure(t: f64) -> f64;
-        pub fn b23_temperature(p: f64) -> f64;
-        pub fn climboat_pT_record(region: u32, property: u32, p: f64, t: f64, numbers: *mut [u32; 4], doubles: *mut [f64; 3]);
-        pub fn climboat_saturation_pressure_record(t: f64, numbers: *mut [u32; 4], doubles: *mut [f64; 3]);
-        pub fn climboat_saturation_temperature_record(p: f64, numbers: *mut [u32; 4], doubles: *mut [f64; 3]);
-        pub fn climboat_B23_pressure_record(t: f64, numbers: *mut [u32; 4], doubles: *mut [f64; 3]);
-        pub fn climboat_B23_temperature_record(p: f64, numbers: *mut [u32; 4], doubles: *mut [f64; 3]);
-        pub fn climboat_pv2T_record(region: u32, p: f64, v: f64, limit: u32, numbers: *mut [u32; 4], doubles: *mut [f64; 3]);
-        pub fn climboat_Tv2p_record(region: u32, t: f64, v: f64, limit: u32, numbers: *mut [u32; 4], doubles: *mut [f64; 3]);
-        pub fn climboat_Th2p_record(region: u32, t: f64, h: f64, limit: u32, numbers: *mut [u32; 4], doubles: *mut [f64; 3]);
-        pub fn climboat_Ts2p_record(region: u32, t: f64, s: f64, limit: u32, numbers: *mut [u32; 4], doubles: *mut [f64; 3]);
-    }
-}
-
-macro_rules! wrapped {
-    ($($name:ident($($x:ident: $t:ty),*) -> $r:ty = $inner:ident;)*) => {
+macro_rules! exports {
+    ($($name:ident($($x:ident: $t:ty),*) -> $r:ty = $symbol:ident;)*) => {
+        mod exports {
+            extern "C" {
+                $(pub fn $symbol($($x: $t),*) -> $r;)*
+            }
+        }
         $(#[inline]
         pub fn $name($($x: $t),*) -> $r {
-            unsafe { archive::$inner($($x),*) }
+            unsafe { exports::$symbol($($x),*) }
         })*
     };
 }
 
-wrapped! {
+exports! {
     abs(x: f64) -> f64 = float_abs;
     min(x: f64, y: f64) -> f64 = float_min;
     copysign(x: f64, y: f64) -> f64 = float_copysign;
@@ -81,6 +44,22 @@ wrapped! {
     saturation_temperature(p: f64) -> f64 = saturation_temperature;
     b23_pressure(t: f64) -> f64 = b23_pressure;
     b23_temperature(p: f64) -> f64 = b23_temperature;
+}
+
+type Numbers = *mut [u32; 4];
+type Doubles = *mut [f64; 3];
+
+#[allow(non_snake_case)]
+extern "C" {
+    fn climboat_pT_record(region: u32, property: u32, p: f64, t: f64, numbers: Numbers, doubles: Doubles);
+    fn climboat_saturation_pressure_record(t: f64, numbers: Numbers, doubles: Doubles);
+    fn climboat_saturation_temperature_record(p: f64, numbers: Numbers, doubles: Doubles);
+    fn climboat_B23_pressure_record(t: f64, numbers: Numbers, doubles: Doubles);
+    fn climboat_B23_temperature_record(p: f64, numbers: Numbers, doubles: Doubles);
+    fn climboat_pv2T_record(region: u32, p: f64, v: f64, limit: u32, numbers: Numbers, doubles: Doubles);
+    fn climboat_Tv2p_record(region: u32, t: f64, v: f64, limit: u32, numbers: Numbers, doubles: Doubles);
+    fn climboat_Th2p_record(region: u32, t: f64, h: f64, limit: u32, numbers: Numbers, doubles: Doubles);
+    fn climboat_Ts2p_record(region: u32, t: f64, s: f64, limit: u32, numbers: Numbers, doubles: Doubles);
 }
 
 /// The calls of one number.
@@ -134,15 +113,15 @@ impl Record {
 }
 
 pub fn property(region: u32, property: u32, p: f64, t: f64) -> Record {
-    written(|numbers, doubles| unsafe { archive::climboat_pT_record(region, property, p, t, numbers, doubles) })
+    written(|numbers, doubles| unsafe { climboat_pT_record(region, property, p, t, numbers, doubles) })
 }
 
 pub fn line(line: Line, x: f64) -> Record {
     let call = match line {
-        Line::SaturationPressure => archive::climboat_saturation_pressure_record,
-        Line::SaturationTemperature => archive::climboat_saturation_temperature_record,
-        Line::B23Pressure => archive::climboat_B23_pressure_record,
-        Line::B23Temperature => archive::climboat_B23_temperature_record,
+        Line::SaturationPressure => climboat_saturation_pressure_record,
+        Line::SaturationTemperature => climboat_saturation_temperature_record,
+        Line::B23Pressure => climboat_B23_pressure_record,
+        Line::B23Temperature => climboat_B23_temperature_record,
     };
     written(|numbers, doubles| unsafe { call(x, numbers, doubles) })
 }
@@ -150,17 +129,17 @@ pub fn line(line: Line, x: f64) -> Record {
 #[inline]
 pub fn search(pair: Pair, region: u32, fixed: f64, target: f64, limit: u32) -> Record {
     let call = match pair {
-        Pair::Pv => archive::climboat_pv2T_record,
-        Pair::Tv => archive::climboat_Tv2p_record,
-        Pair::Th => archive::climboat_Th2p_record,
-        Pair::Ts => archive::climboat_Ts2p_record,
+        Pair::Pv => climboat_pv2T_record,
+        Pair::Tv => climboat_Tv2p_record,
+        Pair::Th => climboat_Th2p_record,
+        Pair::Ts => climboat_Ts2p_record,
     };
     written(|numbers, doubles| unsafe { call(region, fixed, target, limit, numbers, doubles) })
 }
 
 /// The record that a call writes into the two arrays it is lent.
 #[inline]
-fn written(call: impl FnOnce(*mut [u32; 4], *mut [f64; 3])) -> Record {
+fn written(call: impl FnOnce(Numbers, Doubles)) -> Record {
     // nothing that an answer can hold, so that a place left unwritten shows
     let (mut numbers, mut doubles) = ([u32::MAX; 4], [f64::NAN; 3]);
     call(&mut numbers, &mut doubles);

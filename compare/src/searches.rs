@@ -1,6 +1,6 @@
 //! The eight pair searches against the test copy: every column of every answer, bit for bit.
 
-use crate::climboat::{Pair, Record};
+use crate::climboat::{Pair, Record, INSIDE, NARROW, OUTSIDE};
 use crate::draw::Draw;
 use crate::pairs::{Search, LIMIT, SEARCHES};
 use crate::tally::Tally;
@@ -64,20 +64,20 @@ fn targets(search: &Search, draw: &mut Draw, fixed: f64) -> impl Iterator<Item =
 /// For Brent's search, targets at an end of a narrow answer's bracket that it meets exactly: a residual of zero, now and then in a bracket that is narrow too.
 fn met_exactly(search: &Search, fixed: f64, target: f64) -> impl Iterator<Item = (f64, f64)> + '_ {
     let run = (search.copys)(fixed, target, LIMIT as i32);
-    let ends = if run.reason == 4 && !search.bisection { vec![run.lower, run.upper] } else { Vec::new() };
+    let ends = if run.reason == NARROW && !search.bisection { vec![run.lower, run.upper] } else { Vec::new() };
     let targets = ends.into_iter().map(move |x| search.at(fixed, x));
     let met = targets.filter(move |&target| search.passes(fixed, target) && search.at(fixed, (search.copys)(fixed, target, LIMIT as i32).value) == target);
     met.map(move |target| (fixed, target))
 }
 
 fn agrees(search: &Search, fixed: f64, ours: Record, copys: Run) -> bool {
-    let mark = match copys.number {
-        0 if search.inside(search.state(fixed, copys.value)) => 1,
-        0 => 2,
+    let Run { number, reason, value, steps, lower, upper } = copys;
+    let mark = match number {
+        0 if search.inside(search.state(fixed, value)) => INSIDE,
+        0 => OUTSIDE,
         _ => 0,
     };
-    (ours.number, ours.reason, ours.steps, ours.mark) == (copys.number, copys.reason, copys.steps, mark)
-        && [ours.value, ours.lower, ours.upper].map(f64::to_bits) == [copys.value, copys.lower, copys.upper].map(f64::to_bits)
+    ours.same(&Record { number, reason, steps, mark, value, lower, upper })
 }
 
 /// Answers by their reason, refusals by their number, and the largest number of steps.
