@@ -1,0 +1,36 @@
+//! What README.md shows is what the command prints.
+mod run;
+
+/// Each `$ ./climboat ..` of the page, with the lines that it shows below.
+fn shown() -> Vec<(String, String)> {
+    let mut list: Vec<(String, String)> = Vec::new();
+    let mut open = false;
+    for line in include_str!("../../../README.md").lines() {
+        let text = line.strip_prefix("    ");
+        if let Some(asked) = text.and_then(|text| text.strip_prefix("$ ./climboat ")) {
+            list.push((asked.into(), String::new()));
+            open = true;
+        } else if let (true, Some(text), Some((_, answer))) = (open, text, list.last_mut()) {
+            answer.push_str(text);
+            answer.push('\n');
+        } else {
+            open = false;
+        }
+    }
+    list
+}
+
+#[test]
+fn the_readings_of_the_page_are_the_commands() {
+    let shown = shown();
+    assert!(shown.len() >= 3, "README.md shows {} requests", shown.len());
+    for (asked, answer) in shown {
+        let run::Run { status, out, err } = run::run(&asked);
+        let refused = i32::from(answer.starts_with("refused by"));
+        assert_eq!(
+            (status, out, err.as_str()),
+            (refused, answer, ""),
+            "{asked}"
+        );
+    }
+}
