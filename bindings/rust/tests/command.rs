@@ -192,7 +192,7 @@ const WRONG: [(&str, &str); 16] = [
     ),
     (
         "--lines 1",
-        "word 1, \"--lines\", is no option of a request",
+        "--diagram stands alone, --lines alone or with --bits",
     ),
 ];
 

@@ -58,6 +58,13 @@ fn run(words: &[&str], output: &mut impl Write) -> io::Result<u8> {
         ["--lines", "--bits"] | ["--bits", "--lines"] => {
             lines::answer(io::stdin().lock(), output, Notation::Bits)
         }
+        _ if ["--lines", "--diagram"]
+            .iter()
+            .any(|word| words.contains(word)) =>
+        {
+            complain("--diagram stands alone, --lines alone or with --bits (--help tells more)");
+            Ok(WRONG)
+        }
         _ => one(words, output),
     }
 }
