@@ -37,9 +37,32 @@ static void door_check(double p, double v)
     }
 }
 
+/* The first column of the release's Table 5, all seven properties. */
+static void tell_properties(void)
+{
+    static const struct {
+        uint32_t property;
+        const char *name;
+        const char *unit;
+    } rows[] = {
+        {CLIMBOAT_VOLUME, "v", "m^3/kg"},
+        {CLIMBOAT_INTERNAL_ENERGY, "u", "kJ/kg"},
+        {CLIMBOAT_ENTROPY, "s", "kJ/(kg K)"},
+        {CLIMBOAT_ENTHALPY, "h", "kJ/kg"},
+        {CLIMBOAT_CP, "cp", "kJ/(kg K)"},
+        {CLIMBOAT_CV, "cv", "kJ/(kg K)"},
+        {CLIMBOAT_SPEED_OF_SOUND, "w", "m/s"},
+    };
+    size_t i;
+    printf("region 1 at 3 MPa and 300 K\n");
+    for (i = 0; i < sizeof rows / sizeof rows[0]; i++) {
+        tell(rows[i].name, climboat_pT(CLIMBOAT_REGION_1, rows[i].property, 3.0, 300.0), rows[i].unit);
+    }
+}
+
 int main(void)
 {
-    tell("v at 3 MPa and 300 K in region 1", climboat_pT(CLIMBOAT_REGION_1, CLIMBOAT_VOLUME, 3.0, 300.0), "m^3/kg");
+    tell_properties();
     tell("h at 0.0035 MPa and 700 K in region 2", climboat_pT(CLIMBOAT_REGION_2, CLIMBOAT_ENTHALPY, 0.0035, 700.0), "kJ/kg");
     tell("saturation temperature at 1 MPa", climboat_saturation_temperature(1.0), "K");
     tell("saturation pressure at 500 K", climboat_saturation_pressure(500.0), "MPa");

@@ -1,11 +1,11 @@
 -- `digits::double` meets its contract: one comparison tells the patterns of a NaN, and all of them are read as the same. Assumes nothing.
-use mathlib.Core.Path.{_≡_, refl, sym, ap, _∙_, subst}
+use mathlib.Core.Path.{_≡_, refl, sym, _∙_, subst}
 use mathlib.Core.Bool.{Bool, true, false, not, true≢false}
 use borrow.Author.Needs.{needs}
 use borrow.Author.Tests.{lt-ltb, le-ltb}
 use Prim.Native.Nat.{ℕ}
 use lib.Dec.{T}
-use lib.Ieee.{Float, nan, inf, fin, binary64, ofBits, nanBits, isNan, div}
+use lib.Ieee.{Float, nan, inf, fin, binary64, ofBits, isNan, div}
 use lib.Ieee.Bits.{nanBits-is, nanBits-above}
 use Rattle.digits.proofs.double.Statement.{statement}
 use Rattle.digits.proofs.double.Tie as tie

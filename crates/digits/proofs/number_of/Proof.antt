@@ -1,14 +1,14 @@
 -- `digits::number_of` meets its contract. The invariant: the number so far is below 16 to the digits passed, so that sixteen of them fit,
 -- and what it comes to with the rest is what all digits come to. The measure is the digits that are left. Assumes nothing.
-use Prim.Native.Nat.{ℕ, _+_, _-_, _*_, _^_, _≤_, _<_}
-use mathlib.Core.Path.{_≡_, refl, sym, ap, _∙_, subst}
+use Prim.Native.Nat.{_+_, _-_, _*_, _^_, _≤_, _<_}
+use mathlib.Core.Path.{_≡_, refl, sym, _∙_}
 use native.Mathlib.Nat.{lt-of-lt-of-le, pow-le-pow-right}
 use native.Mathlib.Omega.{arith}
 use borrow.Author.Needs.{needs}
 use borrow.Author.Tests.{lt-ltb, le-ltb}
 use lib.Dec.{lit<}
 use lib.ListN.{length, drop, getD, drop-of-length-le}
-use Rattle.digits.specs.Digits.{digitOf, numberFrom, numberOf}
+use Rattle.digits.specs.Digits.{numberFrom, numberOf}
 use Rattle.digits.proofs.Reading.{stops, goes-on, larger, small}
 use Rattle.digits.proofs.number_of.Statement.{statement}
 use Rattle.digits.proofs.number_of.Tie as tie

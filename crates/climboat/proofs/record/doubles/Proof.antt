@@ -1,6 +1,5 @@
 -- `climboat::record::doubles` meets its contract: document 01's columns, case by case. Assumes nothing.
 use lib.Ieee.{ofBits}
-use Rattle.float.specs.Decimal.{rounded}
 use Rattle.climboat.specs.Record.{doubles}
 use borrow.Author.Needs.{needs}
 use Rattle.climboat.proofs.record.doubles.Statement.{statement}
@@ -22,23 +21,23 @@ enum-known-answer-5 : tie.Need-enum-known-answer-5
 enum-known-answer-5 c = search needs
 
 returns : tie.Need-returns
-unfolding doubles rounded ofBits
+unfolding doubles ofBits
 returns c = rw (c .before .answer .given .1)
 
 returns-2 : tie.Need-returns-2
-unfolding doubles rounded ofBits
+unfolding doubles
 returns-2 c = rw (c .before .answer2 .given .1)
 
 returns-3 : tie.Need-returns-3
-unfolding doubles rounded ofBits
+unfolding doubles
 returns-3 c = rw (c .before .answer3 .given .1)
 
 returns-4 : tie.Need-returns-4
-unfolding doubles rounded ofBits
+unfolding doubles
 returns-4 c = rw (c .before .answer4 .given .1)
 
 returns-5 : tie.Need-returns-5
-unfolding doubles rounded ofBits
+unfolding doubles
 returns-5 c = rw (c .before .answer5 .given .1)
 
 pub doubles-spec : {M : Type 1} → statement M

@@ -29,7 +29,7 @@ enum-known-answer-5 : tie.Need-enum-known-answer-5
 enum-known-answer-5 c = search needs
 
 returns : tie.Need-returns
-unfolding markNumber numbers
+unfolding numbers
 returns c = rw (c .before .answer .given .1)
 
 returns-2 : tie.Need-returns-2
@@ -45,7 +45,7 @@ unfolding markNumber numbers
 returns-4 c = rw (c .before .before .answer4 .given .1, ← c .mark3 .ensures)
 
 returns-5 : tie.Need-returns-5
-unfolding markNumber numbers
+unfolding numbers
 returns-5 c = rw (c .before .answer5 .given .1)
 
 pub numbers-spec : {M : Type 1} → statement M
