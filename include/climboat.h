@@ -56,12 +56,13 @@ enum climboat_refusal {
     CLIMBOAT_STEPS_SPENT = 8,         /* the step limit was reached; value is the last point, not an answer */
     CLIMBOAT_RESULT_NOT_FINITE = 9,   /* a property, saturation or B23 result is not finite */
     CLIMBOAT_POINT_OUTSIDE = 10,      /* the next point is outside the bracket */
-    CLIMBOAT_LIMIT_TOO_LARGE = 11,    /* the step limit is above CLIMBOAT_STEP_LIMIT */
+    CLIMBOAT_LIMIT_TOO_LARGE = 11,    /* the step limit is above CLIMBOAT_LARGEST_STEP_LIMIT */
     CLIMBOAT_NOTHING_NAMED = 21       /* the number given for a region or a property names nothing */
 };
 
-/* The largest step limit, and the one that the vessels use. */
+/* The step limit that the vessels use, and the largest that a search takes. */
 #define CLIMBOAT_STEP_LIMIT 20000u
+#define CLIMBOAT_LARGEST_STEP_LIMIT 20000u
 
 /* What every call answers. number is CLIMBOAT_ANSWERED, or a refusal's number; value counts only where it is CLIMBOAT_ANSWERED. */
 struct climboat_answer {

@@ -75,6 +75,6 @@ int main(void)
     tell_search("pressure at 500 K and 0.1 m^3/kg in region 2, limit 5", climboat_Tv2p(CLIMBOAT_REGION_2, 500.0, 0.1, 5), "MPa");
     tell("v at NaN", climboat_pT(CLIMBOAT_REGION_1, CLIMBOAT_VOLUME, NAN, 300.0), "m^3/kg");
     tell("v of region 3", climboat_pT(3, CLIMBOAT_VOLUME, 3.0, 300.0), "m^3/kg");
-    tell("limit 20001", climboat_Tv2p(CLIMBOAT_REGION_1, 300.0, 0.001, 20001), "MPa");
+    tell("limit 20001", climboat_Tv2p(CLIMBOAT_REGION_1, 300.0, 0.001, CLIMBOAT_LARGEST_STEP_LIMIT + 1), "MPa");
     return 0;
 }

@@ -85,7 +85,7 @@ pub enum Cause {
     ResultNotFinite,
     /// 10: the next point lies outside the bracket.
     PointOutside,
-    /// 11: the step limit is above 20,000.
+    /// 11: the step limit is above [`crate::LARGEST_STEP_LIMIT`], 20,000.
     LimitTooLarge,
     /// 21: a region or property number names nothing for this call.
     NothingNamed,

@@ -36,8 +36,11 @@ mod choices;
 pub use answer::{Bracket, Cause, Reading, Reason, Refusal, Search};
 pub use choices::{Pair, Property, Region};
 
-/// The step limit that the vessels use. A larger one is refused by 11.
+/// The step limit that the vessels use.
 pub const STEP_LIMIT: u32 = 20_000;
+
+/// The largest step limit that a search takes. A larger one is refused by 11.
+pub const LARGEST_STEP_LIMIT: u32 = 20_000;
 
 /// A property of the named region at p and T.
 ///

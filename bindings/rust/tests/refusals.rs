@@ -25,7 +25,7 @@ const DOUBLES: [f64; 22] = [
     863.15,
     1073.15,
 ];
-const LIMITS: [u32; 5] = [0, 1, STEP_LIMIT, STEP_LIMIT + 1, u32::MAX];
+const LIMITS: [u32; 6] = [0, 1, STEP_LIMIT, LARGEST_STEP_LIMIT, LARGEST_STEP_LIMIT + 1, u32::MAX];
 
 /// What a refusal carries is what document 01's table gives its number.
 fn assert_refusal(refusal: Refusal, limit: u32) {
@@ -98,13 +98,13 @@ fn a_search_answers_or_refuses_by_the_table_whatever_its_inputs() {
                 let number = answer.map_or_else(|refusal| refusal.number, |_| 0);
                 assert_eq!(
                     number == 11,
-                    limit > STEP_LIMIT,
+                    limit > LARGEST_STEP_LIMIT,
                     "{pair:?} {region:?} {first} {second} {limit}"
                 );
                 let finite = first.is_finite() && second.is_finite();
                 assert_eq!(
                     number == 1,
-                    !finite && limit <= STEP_LIMIT,
+                    !finite && limit <= LARGEST_STEP_LIMIT,
                     "{pair:?} {region:?} {first} {second} {limit}"
                 );
                 seen.insert(number);

@@ -5,7 +5,7 @@ use Rattle.vessel.specs.Answer.{refused}
 use Rattle.vessel.specs.Calls as calls
 use Rattle.vessel.specs.Searches as searches
 use Rattle.vessel.specs.declared.answer.Answer.{Answer}
-use Rattle.vessel.specs.declared.range.Region.{Region}
+use Rattle.pairs.specs.declared.row.Region.{Region}
 use Rattle.vessel.specs.declared.pair.PvRegion.{PvRegion}
 use Rattle.vessel.specs.declared.property.Property.{Property}
 use Rattle.climboat.specs.Names.{regionNamed, pvRegionNamed, propertyNamed}

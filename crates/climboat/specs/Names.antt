@@ -2,8 +2,8 @@
 use Prim.Native.Nat.{ℕ}
 use mathlib.Core.List.{[], _∷_}
 use lib.Dec.{eqb}
-use Rattle.pairs.specs.Decision.{_⇒_, decided}
-use Rattle.vessel.specs.declared.range.Region.the-variants.{One, Two}
+use Rattle.search.specs.Decision.{_⇒_, decided}
+use Rattle.pairs.specs.declared.row.Region.the-variants.{One, Two}
 use Rattle.vessel.specs.declared.pair.PvRegion.the-variants.{One as One', Two as Two'}
 use Rattle.vessel.specs.declared.property.Property.the-variants.{Volume, InternalEnergy, Entropy, Enthalpy, Cp, Cv, SpeedOfSound}
 use Rattle.climboat.specs.declared.names.NamedRegion as region

@@ -1,9 +1,9 @@
 // What a number names, since C has no enum of Rattle's: a region by its own number, a property by its place in document 01's list.
 ghost use mathlib.Core.Path.{_≡_};
 ghost use Rattle.climboat.specs.Names.{regionNamed, pvRegionNamed, propertyNamed};
+use pairs::row::Region;
 use vessel::pair::PvRegion;
 use vessel::property::Property;
-use vessel::range::Region;
 
 pub enum NamedRegion {
     Names(Region),

@@ -31,9 +31,9 @@ pub fn doubles(answer: Answer) -> [f64; 3]
 {
     match answer {
         Answer::Value(x) => [x, 0.0, 0.0],
-        Answer::ExactEnd(found) => [found.value, found.lower, found.upper],
-        Answer::SmallResidual(found) => [found.value, found.lower, found.upper],
-        Answer::Narrow(found) => [found.value, found.lower, found.upper],
-        Answer::Refused(refusal) => [refusal.value, refusal.lower, refusal.upper],
+        Answer::ExactEnd(found) => [found.value, found.bracket.x1, found.bracket.x2],
+        Answer::SmallResidual(found) => [found.value, found.bracket.x1, found.bracket.x2],
+        Answer::Narrow(found) => [found.value, found.bracket.x1, found.bracket.x2],
+        Answer::Refused(refusal) => [refusal.value, refusal.bracket.x1, refusal.bracket.x2],
     }
 }

@@ -1,6 +1,6 @@
 -- The boundary between regions 2 and 3 (B23) in document 01's order of operations, the ranges of document 01 that read no boundary, and what a boundary answers.
 use Prim.Native.Nat.{ℕ}
-use mathlib.Core.Bool.{Bool, _&&_, cond}
+use mathlib.Core.Bool.{Bool, true, false, _&&_, cond}
 use lib.Ieee.{Float, le}
 use lib.Ieee.Scale.{finite}
 use Rattle.exact.specs.Operations.{_⊕_, _⊖_, _⊗_, _⊘_}
@@ -46,11 +46,25 @@ most P23 = p-most
 unfoldable pub inside : Range → Float → Bool
 inside range x = le (least range) x && le x (most range)
 
+-- ---- the number that refuses what lies outside: 3 for a pressure, 2 for a temperature
+abbrev pub ofPressures : Range → Bool
+ofPressures T1 = false
+ofPressures P1 = true
+ofPressures T2 = false
+ofPressures P2 = true
+ofPressures T4 = false
+ofPressures P4 = true
+ofPressures T23 = false
+ofPressures P23 = true
+
+unfoldable pub numberOf : Range → ℕ
+numberOf range = cond (ofPressures range) 3 2
+
 -- ---- what a boundary answers
 -- as a bracket end or a region's boundary: 9 where it is not finite
 unfoldable pub found : Float → Boundary
 found result = cond (finite result) (At result) (Refused 9)
 
--- as a call: 1 for an input that is not finite, `number` outside its range, 9 for a result that is not finite
-unfoldable pub checked : ℕ → Range → Float → Float → Boundary
-checked number range x result = cond (finite x) (cond (inside range x) (found result) (Refused number)) (Refused 1)
+-- as a call: 1 for an input that is not finite, 2 or 3 outside its range, 9 for a result that is not finite
+unfoldable pub checked : Range → Float → Float → Boundary
+checked range x result = cond (finite x) (cond (inside range x) (found result) (Refused (numberOf range))) (Refused 1)

@@ -1,6 +1,6 @@
 // The boundary between regions 2 and 3, and the ranges that read no boundary.
 ghost use mathlib.Core.Path.{_≡_};
-ghost use Rattle.common.specs.Boundaries.{B23-p, B23-T, least as leastOf, most as mostOf, inside as insideOf, found as foundOf, checked as checkedOf};
+ghost use Rattle.common.specs.Boundaries.{B23-p, B23-T, least as leastOf, most as mostOf, inside as insideOf, ofPressures, numberOf, found as foundOf, checked as checkedOf};
 use crate::constant::P_MAX;
 use crate::constant::P_MAX4;
 use crate::constant::P_MIN1;
@@ -87,6 +87,32 @@ pub fn inside(range: Range, x: f64) -> bool
     false
 }
 
+// Whether a range is one of pressures; the others are of temperatures.
+pub fn of_pressures(range: Range) -> bool
+    ensures { λ r. ⌜ r ≡ ofPressures range ⌝ }
+{
+    match range {
+        Range::T1 => false,
+        Range::P1 => true,
+        Range::T2 => false,
+        Range::P2 => true,
+        Range::T4 => false,
+        Range::P4 => true,
+        Range::T23 => false,
+        Range::P23 => true,
+    }
+}
+
+// The number that refuses what lies outside a range.
+pub fn number(range: Range) -> u32
+    ensures { λ r. ⌜ r ≡ numberOf range ⌝ }
+{
+    if of_pressures(range) {
+        return 3;
+    }
+    2
+}
+
 // What a boundary answers as a bracket end or a region's boundary: its double, or 9 where that is not finite.
 pub fn found(result: f64) -> Boundary
     ensures { λ r. ⌜ r ≡ foundOf result ⌝ }
@@ -98,14 +124,14 @@ pub fn found(result: f64) -> Boundary
 }
 
 // What a boundary answers at x: the formula's result, or the number of the refusal.
-pub fn checked(number: u32, range: Range, x: f64, result: f64) -> Boundary
-    ensures { λ r. ⌜ r ≡ checkedOf number range x result ⌝ }
+pub fn checked(range: Range, x: f64, result: f64) -> Boundary
+    ensures { λ r. ⌜ r ≡ checkedOf range x result ⌝ }
 {
     if !is_finite(x) {
         return Boundary::Refused(1);
     }
     if !inside(range, x) {
-        return Boundary::Refused(number);
+        return Boundary::Refused(number(range));
     }
     found(result)
 }

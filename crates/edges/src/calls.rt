@@ -1,4 +1,5 @@
 // The vessel's calls at the edges: document 01's readings 10 to 16 but for 14, and the neighbours that a careful reader would try.
+use pairs::row::Region;
 use r1::region1_pT::pT2s_reg1;
 use r1::region1_pT::pT2v_reg1;
 use r2::region2_pT::pT2h_reg2;
@@ -6,13 +7,13 @@ use r2::region2_pT::pT2v_reg2;
 use r4::region4_sat_pT::p_saturation_formula;
 use show::answer;
 use vessel::pair::PvRegion;
+use vessel::pair::STEP_LIMIT;
 use vessel::pair::Th2p;
 use vessel::pair::Ts2p;
 use vessel::pair::Tv2p;
 use vessel::pair::pv2T;
 use vessel::property::Property;
 use vessel::property::pT;
-use vessel::range::Region;
 use vessel::saturation::B23_pressure;
 use vessel::saturation::B23_temperature;
 use vessel::saturation::saturation_pressure;
@@ -153,7 +154,7 @@ pub fn readings13to16() {
         PvRegion::One,
         100.0,
         pT2v_reg1(100.0, 273.15),
-        20000,
+        STEP_LIMIT,
     );
     by_pv(
         b"15: bisection, limit 0",
@@ -174,14 +175,14 @@ pub fn readings13to16() {
         PvRegion::One,
         1.0,
         0.5 * (pT2v_reg1(1.0, 273.15) + pT2v_reg1(1.0, 277.0)),
-        20000,
+        STEP_LIMIT,
     );
     by_pv(
         b"16: the ends, 1 MPa, v at 273.15 K",
         PvRegion::One,
         1.0,
         pT2v_reg1(1.0, 273.15),
-        20000,
+        STEP_LIMIT,
     );
 }
 
@@ -223,27 +224,51 @@ pub fn order() {
         PvRegion::One,
         0.0,
         0.0 / 0.0,
-        20000,
+        STEP_LIMIT,
     );
-    by_pv(b"p out of range before v", PvRegion::One, 0.0, -1.0, 20000);
-    by_Tv(b"T out of range before v", Region::One, 700.0, -1.0, 20000);
-    by_pv(b"v = 0", PvRegion::Two, 1.0, 0.0, 20000);
-    by_Tv(b"v = -0", Region::Two, 500.0, -0.0, 20000);
-    by_Tv(b"v the least double", Region::Two, 500.0, 5.0e-324, 20000);
+    by_pv(
+        b"p out of range before v",
+        PvRegion::One,
+        0.0,
+        -1.0,
+        STEP_LIMIT,
+    );
+    by_Tv(
+        b"T out of range before v",
+        Region::One,
+        700.0,
+        -1.0,
+        STEP_LIMIT,
+    );
+    by_pv(b"v = 0", PvRegion::Two, 1.0, 0.0, STEP_LIMIT);
+    by_Tv(b"v = -0", Region::Two, 500.0, -0.0, STEP_LIMIT);
+    by_Tv(
+        b"v the least double",
+        Region::Two,
+        500.0,
+        5.0e-324,
+        STEP_LIMIT,
+    );
 }
 
 // NaN, infinities and the largest double in each place of a search.
 pub fn places() {
-    by_Tv(b"v infinite", Region::Two, 500.0, 1.0 / 0.0, 20000);
-    by_Ts(b"T infinite", Region::One, 1.0 / 0.0, 1.0, 20000);
-    by_Th(b"h NaN", Region::Two, 500.0, 0.0 / 0.0, 20000);
-    by_Ts(b"s minus infinity", Region::Two, 500.0, -1.0 / 0.0, 20000);
+    by_Tv(b"v infinite", Region::Two, 500.0, 1.0 / 0.0, STEP_LIMIT);
+    by_Ts(b"T infinite", Region::One, 1.0 / 0.0, 1.0, STEP_LIMIT);
+    by_Th(b"h NaN", Region::Two, 500.0, 0.0 / 0.0, STEP_LIMIT);
+    by_Ts(
+        b"s minus infinity",
+        Region::Two,
+        500.0,
+        -1.0 / 0.0,
+        STEP_LIMIT,
+    );
     by_Th(
         b"h the largest double",
         Region::One,
         500.0,
         1.7976931348623157e+308,
-        20000,
+        STEP_LIMIT,
     );
 }
 
@@ -254,14 +279,14 @@ pub fn outside() {
         Region::Two,
         300.0,
         pT2h_reg2(0.1, 300.0),
-        20000,
+        STEP_LIMIT,
     );
     by_Tv(
         b"region 2 (T,v), a pressure outside",
         Region::Two,
         500.0,
         pT2v_reg2(3.0, 500.0),
-        20000,
+        STEP_LIMIT,
     );
 }
 
@@ -272,27 +297,27 @@ pub fn inside() {
         Region::Two,
         600.0,
         pT2h_reg2(1.0, 600.0),
-        20000,
+        STEP_LIMIT,
     );
     by_pv(
         b"region 2 (p,v), a temperature",
         PvRegion::Two,
         1.0,
         pT2v_reg2(1.0, 500.0),
-        20000,
+        STEP_LIMIT,
     );
     by_Ts(
         b"region 1 (T,s), a pressure",
         Region::One,
         450.0,
         pT2s_reg1(20.0, 450.0),
-        20000,
+        STEP_LIMIT,
     );
     by_Tv(
         b"region 1 (T,v), on the saturation line",
         Region::One,
         500.0,
         pT2v_reg1(p_saturation_formula(500.0), 500.0),
-        20000,
+        STEP_LIMIT,
     );
 }

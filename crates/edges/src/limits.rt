@@ -1,15 +1,16 @@
 // The limits of document 01's ranges, each with the doubles next to it.
+use pairs::row::Region;
 use show::answer;
 use show::write;
 use vessel::answer::Answer;
 use vessel::pair::PvRegion;
+use vessel::pair::STEP_LIMIT;
 use vessel::pair::Th2p;
 use vessel::pair::Ts2p;
 use vessel::pair::Tv2p;
 use vessel::pair::pv2T;
 use vessel::property::Property;
 use vessel::property::pT;
-use vessel::range::Region;
 use vessel::saturation::B23_pressure;
 use vessel::saturation::B23_temperature;
 use vessel::saturation::saturation_pressure;
@@ -37,10 +38,10 @@ fn called(call: Call, x: f64) -> Answer {
         Call::SaturationTemperature => saturation_temperature(x),
         Call::B23Pressure => B23_pressure(x),
         Call::B23Temperature => B23_temperature(x),
-        Call::FromV(region, v) => pv2T(region, x, v, 20000),
-        Call::FromTv(region, v) => Tv2p(region, x, v, 20000),
-        Call::FromTh(region, h) => Th2p(region, x, h, 20000),
-        Call::FromTs(region, s) => Ts2p(region, x, s, 20000),
+        Call::FromV(region, v) => pv2T(region, x, v, STEP_LIMIT),
+        Call::FromTv(region, v) => Tv2p(region, x, v, STEP_LIMIT),
+        Call::FromTh(region, h) => Th2p(region, x, h, STEP_LIMIT),
+        Call::FromTs(region, s) => Ts2p(region, x, s, STEP_LIMIT),
     }
 }
 

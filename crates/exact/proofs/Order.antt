@@ -1,13 +1,14 @@
 -- The comparisons of doubles are those of exact values. Assumes nothing.
-use mathlib.Core.Path.{_≡_, sym, ap, _∙_}
+use mathlib.Core.Path.{_≡_, refl, sym, ap, _∙_}
 use mathlib.Core.Logic.{_⊎_, inl, inr}
-use mathlib.Core.Bool.{Bool, true, false, _||_, Bool·beq}
-use Prim.Native.Nat.{ℕ, _+_, _*_, _<_}
-use native.Mathlib.Nat.{le-of-eq, le-of-lt, lt-of-le-of-lt, eq-or-lt-of-le, lt-of-lt-of-le, zero-mul, mul-comm, mul-assoc, mul-right-comm, mul-pos, mul-lt-mul-of-pos-right, lt-of-mul-lt-mul-right, eq-of-mul-eq-mul-right}
+use mathlib.Core.Bool.{Bool, true, false, _||_, Bool·beq, true≢false}
+use Prim.Native.Nat.{ℕ, _+_, _*_, _<_, _≤_}
+use native.Mathlib.Nat.{le-of-eq, le-of-lt, lt-of-not-le, lt-of-le-of-lt, eq-or-lt-of-le, lt-of-lt-of-le, zero-mul, mul-comm, mul-assoc, mul-right-comm, mul-pos, mul-lt-mul-of-pos-right, lt-of-mul-lt-mul-right, eq-of-mul-eq-mul-right}
 use native.Mathlib.Omega.{arith}
 use lib.IntN.{ℤ}
 use lib.Dec.{T, eqb, ltb→lt, lt→ltb, eqb→eq}
 use lib.Ieee.{Float, nan, inf, fin, binary64, up, down, fits, below, level, lt, le, eq}
+use lib.Ieee.Bits.{is-true}
 use lib.Ieee.Fits.{down-pos, and-i, and-l, and-r, eq→eqb}
 use Rattle.exact.specs.Value.{unit, inUnits, when, unless, plus, minus, double, Less, AtMost, Equal}
 use Rattle.exact.proofs.Grid.{either}
@@ -156,3 +157,23 @@ le→exact x y p q h = elim (or-split (lt x y) (eq x y) h) [ inl k ↦ le-of-lt 
 pub exact→le : (x y : Float) → T (double x) → T (double y) → AtMost x y → T (le x y)
 unfolding le
 exact→le x y p q h = elim (eq-or-lt-of-le h) [ inl k ↦ or-r (lt x y) (eq x y) (exact→eq x y p q k) | inr k ↦ or-l (lt x y) (eq x y) (exact→lt x y p q k) ]
+
+-- ---- chains, and what a comparison that fails says
+pub le-le : (x y z : Float) → T (double x) → T (double y) → T (double z) → T (le x y) → T (le y z) → T (le x z)
+le-le x y z p q r h k =
+    let a : plus x + minus y ≤ plus y + minus x = le→exact x y p q h in
+    let b : plus y + minus z ≤ plus z + minus y = le→exact y z q r k in
+    exact→le x z p r (omega (arith, a, b))
+
+not-le→less : (x y : Float) → T (double x) → T (double y) → le x y ≡ false → Less y x
+not-le→less x y p q h = lt-of-not-le (λ k. true≢false (sym (is-true (le x y) (exact→le x y p q k)) ∙ h))
+
+pub not-le→le : (x y : Float) → T (double x) → T (double y) → le x y ≡ false → T (le y x)
+not-le→le x y p q h = exact→le y x q p (le-of-lt (not-le→less x y p q h))
+
+pub not-lt→le : (x y : Float) → T (double x) → T (double y) → lt x y ≡ false → T (le y x)
+not-lt→le x y p q h = by (le y x) refl
+  where
+    by : (b : Bool) → le y x ≡ b → T b
+    by true e = tt
+    by false e = true≢false (sym (is-true (lt x y) (exact→lt x y p q (not-le→less y x q p e))) ∙ h)

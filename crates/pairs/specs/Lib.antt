@@ -1,3 +1,3 @@
-pub mod Decision
+pub mod Rows
 pub mod Residual
 pub mod Pairs

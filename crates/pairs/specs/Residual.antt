@@ -1,17 +1,24 @@
--- The residual of each pair in document 01's words. Bisection: (v − v found) / v; Brent: target − found. Found values come from the formulas, without range checks.
+-- The residual of a question in document 01's words. Bisection: (v − v found) / v; Brent: target − found. Found values come from the formulas, without range checks.
+use mathlib.Core.Bool.{cond}
 use lib.Ieee.{Float}
 use Rattle.exact.specs.Operations.{_⊖_, _⊘_}
-use Rattle.r1.specs.Region1 as region1
-use Rattle.r2.specs.Region2 as region2
-use Rattle.pairs.specs.declared.equation.Equation.{Equation}
-use Rattle.pairs.specs.declared.equation.Equation.the-variants.{Pv1, Tv1, Th1, Ts1, Pv2, Tv2, Th2, Ts2}
+use Rattle.common.specs.Boundaries.{ofPressures}
+use Rattle.search.specs.declared.method.Method.{Method}
+use Rattle.search.specs.declared.method.Method.the-variants.{ByBisection, ByBrent}
+use Rattle.pairs.specs.Rows.{PairRow, row}
+use Rattle.pairs.specs.declared.question.Question.{Question}
+use Rattle.pairs.specs.declared.question.State.{State}
 
-unfoldable pub residual : Equation → Float → Float
-residual (Pv1 p v) T = (v ⊖ region1.pT2v p T) ⊘ v
-residual (Tv1 T v) p = v ⊖ region1.pT2v p T
-residual (Th1 T h) p = h ⊖ region1.pT2h p T
-residual (Ts1 T s) p = s ⊖ region1.pT2s p T
-residual (Pv2 p v) T = v ⊖ region2.pT2v p T
-residual (Tv2 T v) p = (v ⊖ region2.pT2v p T) ⊘ v
-residual (Th2 T h) p = h ⊖ region2.pT2h p T
-residual (Ts2 T s) p = s ⊖ region2.pT2s p T
+abbrev pub rowOf : Question → PairRow
+rowOf q = row (q .pair)
+
+-- the state at x: where p is fixed x is T, and where T is fixed x is p
+unfoldable pub stateOf : Question → Float → State
+stateOf q x = cond (ofPressures (rowOf q .range)) (record { p = q .fixed; T = x }) (record { p = x; T = q .fixed })
+
+abbrev pub residualBy : Method → Float → Float → Float
+residualBy (ByBisection rule) target found = (target ⊖ found) ⊘ target
+residualBy ByBrent target found = target ⊖ found
+
+unfoldable pub residual : Question → Float → Float
+residual q x = residualBy (rowOf q .method) (q .target) (rowOf q .formula (stateOf q x .p) (stateOf q x .T))

@@ -1,7 +1,5 @@
-// The eight pairs: which function is searched, between which ends, by which search.
-pub mod ends;
-pub mod equation;
+// The eight pairs, one row each: which formula is searched, between which ends, by which search.
 pub mod pair;
-pub mod region1_pair_ext;
-pub mod region2_pair_ext;
+pub mod question;
 pub mod root;
+pub mod row;

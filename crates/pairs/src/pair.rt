@@ -1,66 +1,62 @@
-// A pair's search from its ends to its outcome.
+// A question's search, from the ends of its pair or between any two given ends, to its outcome.
 ghost use mathlib.Core.Path.{_≡_};
-ghost use Rattle.search.specs.Search.{ends as endsOf};
-ghost use Rattle.pairs.specs.Residual.{residual as residualOf};
-ghost use Rattle.pairs.specs.Pairs.{steps as stepsOf, pair as pairOf};
-use crate::ends::lower_end;
-use crate::ends::upper_end;
-use crate::equation::Equation;
-use crate::equation::residual;
+ghost use Rattle.pairs.specs.Pairs.{steps as stepsOf, between as betweenOf, pair as pairOf};
+use crate::question::Question;
 use crate::root::bisection;
 use crate::root::zbrent;
-use common::boundaries::Boundary;
-use common::boundaries::found;
+use r4::ends::End;
 use search::bracket::Bracket;
 use search::bracket::Opening;
 use search::bracket::Outcome;
 use search::bracket::refused;
+use search::method::Method;
 
 // The search of the pair, from a bracket.
-fn steps(equation: Equation, start: Bracket, limit: u32) -> Outcome
-    ensures { λ r. ⌜ r ≡ stepsOf equation start limit ⌝ }
+fn steps(question: Question, start: Bracket, limit: u32) -> Outcome
+    ensures { λ r. ⌜ r ≡ stepsOf question start limit ⌝ }
 {
-    match equation {
-        Equation::Pv1(p, v) => bisection(equation, 1.0e-6, start, limit),
-        Equation::Tv1(T, v) => zbrent(equation, start, limit),
-        Equation::Th1(T, h) => zbrent(equation, start, limit),
-        Equation::Ts1(T, s) => zbrent(equation, start, limit),
-        Equation::Pv2(p, v) => zbrent(equation, start, limit),
-        Equation::Tv2(T, v) => bisection(equation, 1.0e-6, start, limit),
-        Equation::Th2(T, h) => zbrent(equation, start, limit),
-        Equation::Ts2(T, s) => zbrent(equation, start, limit),
+    let pair = question.pair;
+    let method = pair.method();
+    match method {
+        Method::ByBisection(rule) => bisection(question, rule, start, limit),
+        Method::ByBrent => zbrent(question, start, limit),
     }
 }
 
-// The two ends with their residuals.
-fn ends(equation: Equation, low: f64, high: f64) -> Bracket
-    ensures { λ r. ⌜ r ≡ endsOf (residualOf equation) low high ⌝ }
+// The search between two given ends: 5; both ends evaluated: 6, a zero at either end, 7; then the steps.
+pub fn between(question: Question, low: f64, high: f64, limit: u32) -> Outcome
+    ensures { λ r. ⌜ r ≡ betweenOf question low high limit ⌝ }
 {
-    let r1 = residual(equation, low);
-    let r2 = residual(equation, high);
-    Bracket {
-        x1: low,
-        x2: high,
-        r1,
-        r2,
+    if low < high {
+        let r1 = question.residual(low);
+        let r2 = question.residual(high);
+        let start = Bracket {
+            x1: low,
+            x2: high,
+            r1,
+            r2,
+        };
+        let opening = start.opened();
+        return match opening {
+            Opening::Closed(o) => o,
+            Opening::Open(b) => steps(question, b, limit),
+        };
     }
+    refused(5)
 }
 
-// The outcome of a pair, whatever its inputs: an end that is not finite is 9.
-pub fn pair(equation: Equation, limit: u32) -> Outcome
-    ensures { λ r. ⌜ r ≡ pairOf equation limit ⌝ }
+// The outcome of a pair, whatever its inputs: an end that is missing is 9.
+pub fn pair(question: Question, limit: u32) -> Outcome
+    ensures { λ r. ⌜ r ≡ pairOf question limit ⌝ }
 {
-    let lower = found(lower_end(equation));
-    let Boundary::At(low) = lower else {
+    let pair = question.pair;
+    let lower = pair.lower_end(question.fixed);
+    let End::At(low) = lower else {
         return refused(9);
     };
-    let upper = found(upper_end(equation));
-    let Boundary::At(high) = upper else {
+    let upper = pair.upper_end(question.fixed);
+    let End::At(high) = upper else {
         return refused(9);
     };
-    let opening = ends(equation, low, high).opened();
-    match opening {
-        Opening::Closed(o) => o,
-        Opening::Open(b) => steps(equation, b, limit),
-    }
+    between(question, low, high, limit)
 }

@@ -1,20 +1,20 @@
-// The two searches as loops over a named equation, for any step limit: algo/root.rs of the Rust.
+// The two searches as loops over a question, for any step limit: algo/root.rs of the Rust.
 ghost use mathlib.Core.Path.{_≡_};
-ghost use Rattle.search.specs.Bisection.{bisection as bisectionOf};
+ghost use Rattle.search.specs.Bisection.{widthOf, bisection as bisectionOf};
 ghost use Rattle.search.specs.Brent.{zbrent as zbrentOf};
 ghost use Rattle.pairs.specs.Residual.{residual as residualOf};
-use crate::equation::Equation;
-use crate::equation::residual;
+use crate::question::Question;
 use search::bisection::Turn;
+use search::bisection::Width;
 use search::bracket::Bracket;
 use search::bracket::Outcome;
 use search::brent::Aim;
 use search::brent::Brent;
 use search::brent::BrentTurn;
 
-// Bisection from a bracket, narrow below the width handed in.
-pub fn bisection(equation: Equation, width: f64, start: Bracket, limit: u32) -> Outcome
-    ensures { λ r. ⌜ r ≡ bisectionOf width (residualOf equation) start limit ⌝ }
+// Bisection from a bracket, by a narrow rule.
+pub fn bisection(question: Question, rule: Width, start: Bracket, limit: u32) -> Outcome
+    ensures { λ r. ⌜ r ≡ bisectionOf (widthOf rule) (residualOf question) start limit ⌝ }
 {
     let mut b = start;
     let mut n: u32 = 0;
@@ -22,9 +22,9 @@ pub fn bisection(equation: Equation, width: f64, start: Bracket, limit: u32) -> 
         if b.outside() {
             return Outcome::Refused(10, 0.0, n, b);
         }
-        let r = residual(equation, b.middle());
+        let r = question.residual(b.middle());
         n += 1;
-        match b.turn(width, r, n) {
+        match b.turn(rule, r, n) {
             Turn::Done(o) => {
                 return o;
             }
@@ -37,8 +37,8 @@ pub fn bisection(equation: Equation, width: f64, start: Bracket, limit: u32) -> 
 }
 
 // Brent's search from a bracket.
-pub fn zbrent(equation: Equation, start: Bracket, limit: u32) -> Outcome
-    ensures { λ r. ⌜ r ≡ zbrentOf (residualOf equation) start limit ⌝ }
+pub fn zbrent(question: Question, start: Bracket, limit: u32) -> Outcome
+    ensures { λ r. ⌜ r ≡ zbrentOf (residualOf question) start limit ⌝ }
 {
     let mut s = Brent::start(start);
     let mut n: u32 = 0;
@@ -49,7 +49,7 @@ pub fn zbrent(equation: Equation, start: Bracket, limit: u32) -> Outcome
             }
             Aim::At(t, x) => {
                 n += 1;
-                let r = residual(equation, x);
+                let r = question.residual(x);
                 match t.step(x, r, n) {
                     BrentTurn::Ended(o) => {
                         return o;

@@ -1,2 +1,3 @@
 pub mod Table34
 pub mod Saturation
+pub mod Ends

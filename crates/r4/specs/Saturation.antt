@@ -39,7 +39,7 @@ saturationTemperature p =
 
 -- ---- with their ranges: 1, then 2 or 3, then 9
 abbrev pub saturationPressureAt : Float → Boundary
-saturationPressureAt T = checked 2 T4 T (saturationPressure T)
+saturationPressureAt T = checked T4 T (saturationPressure T)
 
 abbrev pub saturationTemperatureAt : Float → Boundary
-saturationTemperatureAt p = checked 3 P4 p (saturationTemperature p)
+saturationTemperatureAt p = checked P4 p (saturationTemperature p)

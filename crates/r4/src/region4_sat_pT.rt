@@ -58,12 +58,12 @@ pub fn T_saturation_formula(p: f64) -> f64
 pub fn p_saturation(T: f64) -> Boundary
     ensures { λ r. ⌜ r ≡ saturationPressureAt T ⌝ }
 {
-    checked(2, Range::T4, T, p_saturation_formula(T))
+    checked(Range::T4, T, p_saturation_formula(T))
 }
 
 // The saturation temperature in its range: 1, 3, 9, or the double.
 pub fn T_saturation(p: f64) -> Boundary
     ensures { λ r. ⌜ r ≡ saturationTemperatureAt p ⌝ }
 {
-    checked(3, Range::P4, p, T_saturation_formula(p))
+    checked(Range::P4, p, T_saturation_formula(p))
 }

@@ -21,7 +21,7 @@ use Rattle.exact.proofs.Width.{narrow as narrow-exact, width-finite}
 use Rattle.float.specs.Sign.{nought, magnitude, sameSign}
 use Rattle.search.specs.Run.{Go, stop, go, statesFrom}
 use Rattle.search.specs.Bisection.{small, middleOf, outside, step, narrow, turn, turnGo, next, spent, bisection, bisectionBrackets}
-use Rattle.search.specs.Demand.{Opposite, Start, Within, Nested, BisectionOwes}
+use Rattle.search.specs.Demand.{Opposite, Start, Within, Nested, RunOwes}
 use Rattle.search.specs.declared.bracket.Bracket.{Bracket}
 use Rattle.search.specs.declared.bracket.Outcome.{Outcome}
 use Rattle.search.specs.declared.bracket.Outcome.the-variants.{SmallResidual, Narrow, Refused}
@@ -73,7 +73,7 @@ module _ (f : Float → Float) (w b : Bracket) (h : Held f w b) where
       record { is-double = H .is-double; some = lt-of-lt-of-le (l .some) (H .above); residual = refl; from-lower = H .above; to-upper = H .under }
 
   -- ---- the width before the step
-  thin : (width : Float) → T (double width) → narrow width b ≡ true → plus (b .x2) < inUnits width + plus (b .x1)
+  thin : (width : Bracket → Float) → T (double (width b)) → narrow width b ≡ true → plus (b .x2) < inUnits (width b) + plus (b .x1)
   unfolding narrow
   thin width d t =
       let p = h .lower .is-double in
@@ -81,7 +81,7 @@ module _ (f : Float → Float) (w b : Bracket) (h : Held f w b) where
       let z1 : minus (b .x1) ≡ 0 = no-minus (b .x1) (h .lower .some) in
       let z2 : minus (b .x2) ≡ 0 = no-minus (b .x2) (h .upper .some) in
       let F = width-finite (b .x1) (b .x2) p q z1 z2 in
-      let l = narrow-exact (b .x1) (b .x2) p q F width d (magnitude-lt (b .x1 ⊖ b .x2) width (sub-rounds (b .x1) (b .x2) p q F .is-double) d (of-true t)) in
+      let l = narrow-exact (b .x1) (b .x2) p q F (width b) d (magnitude-lt (b .x1 ⊖ b .x2) (width b) (sub-rounds (b .x1) (b .x2) p q F .is-double) d (of-true t)) in
       omega (arith, l)
 
 -- ---- what a step keeps: a bracket in w with opposite residuals
@@ -103,7 +103,7 @@ kept f w b (h, o) i n = by (sign-rule r (b .r1) (b .r2) n o)
     by (inr v) = rw (v .0) (record { lower = h .lower; upper = widened h p; order = p .from-lower }, v .1)
 
 -- ---- which rule a turn went by
-module _ (width : Float) (f : Float → Float) where
+module _ (width : Bracket → Float) (f : Float → Float) where
   data Rule (b : Bracket) (n : ℕ) : Go Outcome Bracket → Type 0 where
     outside-now : Rule b n (stop (Refused 10 nought n b))
     spoilt-now : Rule b n (stop (Refused 6 nought (n + 1) b))
@@ -142,18 +142,21 @@ module _ (width : Float) (f : Float → Float) where
   bisection-nested s g limit = subst (Nested f) (map-id (statesFrom (next width f) limit s 0)) (nested f (λ b. b) (next width f) (λ b. Kept f b b) (λ b k. signed (k .0) (inl (k .1))) inward limit s 0 (started g, g .opposite))
 
   -- ---- what an outcome owes
-  module _ (s : Bracket) (d : T (double width)) (g : Start f s) where
-    turn-owes : (b : Bracket) (n : ℕ) → Kept f s b → Hands (BisectionOwes width f s) (Kept f s) (next width f b n)
+  module _ (s : Bracket) (d : (b : Bracket) → T (double (b .x1)) → T (double (b .x2)) → T (double (width b))) (g : Start f s) where
+    abbrev Owed : Outcome → Type 0
+    Owed o = RunOwes (λ r. T (lt (magnitude r) small)) (λ b v. inUnits (width b)) f s o
+
+    turn-owes : (b : Bracket) (n : ℕ) → Kept f s b → Hands Owed (Kept f s) (next width f b n)
     turn-owes b n k = by (rule b n)
       where
-        by : {t : Go Outcome Bracket} → Rule b n t → Hands (BisectionOwes width f s) (Kept f s) t
+        by : {t : Go Outcome Bracket} → Rule b n t → Hands Owed (Kept f s) t
         by outside-now = (inr (inr refl), within (started g) (k .0))
         by spoilt-now = (inl refl, within (started g) (k .0))
         by (small-now p) = of-true p
-        by (narrow-now i t) = enclosed (started g) (k .0) (k .1) (middled f s b (k .0) i) (thin f s b (k .0) width d t)
+        by (narrow-now i t) = enclosed (started g) (k .0) (k .1) (middled f s b (k .0) i) (thin f s b (k .0) width (d b (k .0 .lower .is-double) (k .0 .upper .is-double)) t)
         by (next-now i z) = kept f s b k i z
 
-    pub bisection-owes : (limit : ℕ) → BisectionOwes width f s (bisection width f s limit)
+    pub bisection-owes : (limit : ℕ) → RunOwes (λ r. T (lt (magnitude r) small)) (λ b v. inUnits (width b)) f s (bisection width f s limit)
     unfolding bisection
     bisection-owes limit =
-        keeps (next width f) spent (BisectionOwes width f s) (Kept f s) turn-owes (λ b n k. unfold spent in (inr (inl refl), within (started g) (k .0))) limit s 0 (started g, g .opposite)
+        keeps (next width f) spent Owed (Kept f s) turn-owes (λ b n k. unfold spent in (inr (inl refl), within (started g) (k .0))) limit s 0 (started g, g .opposite)

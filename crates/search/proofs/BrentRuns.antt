@@ -23,8 +23,9 @@ use Rattle.float.specs.Sign.{nought, magnitude, signTaken, sameSign}
 use Rattle.search.specs.Run.{Go, stop, go}
 use Rattle.search.specs.Bracket.{ordered, strictlyBetween}
 use Rattle.search.specs.Brent.{bracketOf, bySign, start, sorted, tolerance, halfWidth, halved, lengths, nextPoint, withLengths, aimSorted, aim, step, turnGo, aimed, next, spent, zbrent, zbrentBrackets}
-use Rattle.search.specs.Demand.{Opposite, Zero, Start, Within, Signed, Nested, Enclosed, BrentOwes}
+use Rattle.search.specs.Demand.{Opposite, Zero, Start, Within, Signed, Nested, Enclosed, Owes}
 use Rattle.search.specs.declared.bracket.Bracket.{Bracket}
+use Rattle.search.specs.declared.method.Method.the-variants.{ByBrent}
 use Rattle.search.specs.declared.brent.Brent.{Brent}
 use Rattle.search.specs.declared.brent.Lengths.{Lengths}
 use Rattle.search.specs.declared.bracket.Outcome.{Outcome}
@@ -208,7 +209,7 @@ module _ (f : Float → Float) (w : Bracket) where
         o : Opposite (s .fb) (s .fc)
         o = opposite-now s h z
 
-    stepped : (s : Brent) (l : Lengths) (x : Float) (n : ℕ) → Sound f w s → eq (s .fb) nought ≡ false → Place f w x (f x) → Hands (BrentOwes f w) (Sound f w) (turnGo (step (withLengths s l) x (f x) n))
+    stepped : (s : Brent) (l : Lengths) (x : Float) (n : ℕ) → Sound f w s → eq (s .fb) nought ≡ false → Place f w x (f x) → Hands (Owes ByBrent f w) (Sound f w) (turnGo (step (withLengths s l) x (f x) n))
     unfolding step
     stepped s l x n h z p = pick (finite (f x)) refl
       where
@@ -218,17 +219,17 @@ module _ (f : Float → Float) (w : Bracket) where
         u : Brent
         u = record { a = s .b; b = x; c = s .c; fa = s .fb; fb = f x; fc = s .fc; d = l .d; e = l .e }
 
-        pick : (q : Bool) → finite (f x) ≡ q → Hands (BrentOwes f w) (Sound f w) (turnGo (cond q (On (bySign u)) (Ended (Refused 6 nought n (bracketOf t)))))
+        pick : (q : Bool) → finite (f x) ≡ q → Hands (Owes ByBrent f w) (Sound f w) (turnGo (cond q (On (bySign u)) (Ended (Refused 6 nought n (bracketOf t)))))
         pick true q = by-sign u (h .last) p (h .other) (opposite-sym (s .fb) (s .fc) (opposite-now s h z)) (three-ways (f x) q)
         pick false q = (inl refl, within g (held t (record { last = h .last; other = h .other; signs = h .signs })))
 
-    aimed-owes : (s : Brent) (n : ℕ) → Sound f w s → {t : Aim} → Rule s n t → Hands (BrentOwes f w) (Sound f w) (aimed f n t)
+    aimed-owes : (s : Brent) (n : ℕ) → Sound f w s → {t : Aim} → Rule s n t → Hands (Owes ByBrent f w) (Sound f w) (aimed f n t)
     aimed-owes s n h (zero-now z) = subst Zero (h .last .residual) z
     aimed-owes s n h (narrow-now z k) = narrow-owes s h z k
     aimed-owes s n h (point-now z l x t k) = stepped s l x (n + 1) h z (strict s h x t k)
     aimed-owes s n h none-now = (inr (inr refl), within g (held s h))
 
-    turn-owes : (s : Brent) (n : ℕ) → Sound f w s → Hands (BrentOwes f w) (Sound f w) (next f s n)
+    turn-owes : (s : Brent) (n : ℕ) → Sound f w s → Hands (Owes ByBrent f w) (Sound f w) (next f s n)
     unfolding next aim
     turn-owes s n h = aimed-owes (sorted s) n (sound-sorted s h) (rule (sorted s) n)
 
@@ -276,11 +277,11 @@ module _ (f : Float → Float) (s : Bracket) (g : Start f s) where
           k : Held f (bracketOf u) (bracketOf u)
           k = held f (bracketOf u) u h
 
-          on : (t : Go Outcome Brent) → Hands (BrentOwes f (bracketOf u)) (Sound f (bracketOf u)) t → Hands (λ o. Prim.Unit {0}) (λ c. Sound f (bracketOf c) c × Within (bracketOf c) (bracketOf u)) t
+          on : (t : Go Outcome Brent) → Hands (Owes ByBrent f (bracketOf u)) (Sound f (bracketOf u)) t → Hands (λ o. Prim.Unit {0}) (λ c. Sound f (bracketOf c) c × Within (bracketOf c) (bracketOf u)) t
           on (stop o) i = tt
           on (go c) i = (self f (bracketOf u) c i, within k (held f (bracketOf u) c i))
 
   -- ---- what an outcome owes
-  pub zbrent-owes : (limit : ℕ) → BrentOwes f s (zbrent f s limit)
+  pub zbrent-owes : (limit : ℕ) → Owes ByBrent f s (zbrent f s limit)
   unfolding zbrent
-  zbrent-owes limit = keeps (next f) spent (BrentOwes f s) (Sound f s) (turn-owes f s (started g)) (λ u n h. unfold spent in (inr (inl refl), within (started g) (held f s u h))) limit (start s) 0 sound-start
+  zbrent-owes limit = keeps (next f) spent (Owes ByBrent f s) (Sound f s) (turn-owes f s (started g)) (λ u n h. unfold spent in (inr (inl refl), within (started g) (held f s u h))) limit (start s) 0 sound-start

@@ -12,7 +12,7 @@ use Rattle.search.specs.declared.bracket.Bracket.{Bracket}
 use Rattle.search.specs.declared.bracket.Outcome.the-variants.{Refused}
 use Rattle.search.proofs.BrentRuns.{zbrent-first, zbrent-last}
 
-pub bisection-at-once : (width : Float) (f : Float → Float) (s : Bracket) → bisection width f s 0 ≡ Refused 8 (middleOf s) 0 s
+pub bisection-at-once : (width : Bracket → Float) (f : Float → Float) (s : Bracket) → bisection width f s 0 ≡ Refused 8 (middleOf s) 0 s
 unfolding bisection runFrom bisecting.spent
 bisection-at-once width f s = refl
 

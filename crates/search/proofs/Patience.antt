@@ -17,7 +17,7 @@ Spent (SmallResidual v n b) = ⊥
 Spent (Narrow v n b) = ⊥
 Spent (Refused number v n b) = number ≡ 8
 
-pub bisection-patient : (width : Float) (f : Float → Float) (s : Bracket) (limit more : ℕ) → (Spent (bisection width f s limit) → ⊥) → bisection width f s (limit + more) ≡ bisection width f s limit
+pub bisection-patient : (width : Bracket → Float) (f : Float → Float) (s : Bracket) (limit more : ℕ) → (Spent (bisection width f s limit) → ⊥) → bisection width f s (limit + more) ≡ bisection width f s limit
 unfolding bisection
 bisection-patient width f s limit more h = patience (bisecting.next width f) bisecting.spent Spent (λ b n. unfold bisecting.spent in refl) limit more s 0 h
 

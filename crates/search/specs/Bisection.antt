@@ -1,4 +1,4 @@
--- Document 01's bisection: the middle, the tests in their order, the step, and the run over any residual function. The width at which it is narrow is handed in.
+-- Document 01's bisection: the middle, the tests in their order, the step, and the run over any residual function. The narrow rule is a function of the bracket, and a named choice is read by one.
 use Prim.Native.Nat.{ℕ, _+_}
 use mathlib.Core.Bool.{Bool, cond, _||_}
 use mathlib.Core.List.{List}
@@ -12,6 +12,8 @@ use Rattle.search.specs.Run.{Go, stop, go, runFrom, statesFrom}
 use Rattle.search.specs.declared.bracket.Bracket.{Bracket}
 use Rattle.search.specs.declared.bracket.Outcome.{Outcome}
 use Rattle.search.specs.declared.bracket.Outcome.the-variants.{SmallResidual, Narrow, Refused}
+use Rattle.search.specs.declared.bisection.Width.{Width}
+use Rattle.search.specs.declared.bisection.Width.the-variants.{Millionth}
 use Rattle.search.specs.declared.bisection.Turn.{Turn}
 use Rattle.search.specs.declared.bisection.Turn.the-variants.{Done, Next}
 
@@ -34,12 +36,16 @@ step b r =
     (record { x1 = middleOf b; x2 = b .x2; r1 = r; r2 = b .r2 })
     (record { x1 = b .x1; x2 = middleOf b; r1 = b .r1; r2 = r })
 
+-- the narrow rule by its name: the width below which a bracket is narrow
+unfoldable pub widthOf : Width → Bracket → Float
+widthOf Millionth b = rounded (number 1 (− 6))
+
 -- the width before the step
-unfoldable pub narrow : Float → Bracket → Bool
-narrow width b = lt (magnitude (b .x1 ⊖ b .x2)) width
+unfoldable pub narrow : (Bracket → Float) → Bracket → Bool
+narrow width b = lt (magnitude (b .x1 ⊖ b .x2)) (width b)
 
 -- the tests once the residual r at the middle is known; n counts that evaluation
-unfoldable pub turn : Float → Bracket → Float → ℕ → Turn
+unfoldable pub turn : (Bracket → Float) → Bracket → Float → ℕ → Turn
 turn width b r n =
     cond (finite r)
     (cond (lt (magnitude r) small) (Done (SmallResidual (middleOf b) n b))
@@ -52,15 +58,15 @@ turnGo (Done o) = stop o
 turnGo (Next c) = go c
 
 -- one turn of the loop after n steps, and the outcome at the limit: 8, with the next middle as last point
-unfoldable pub next : Float → (Float → Float) → Bracket → ℕ → Go Outcome Bracket
+unfoldable pub next : (Bracket → Float) → (Float → Float) → Bracket → ℕ → Go Outcome Bracket
 next width f b n = cond (outside b) (stop (Refused 10 nought n b)) (turnGo (turn width b (f (middleOf b)) (n + 1)))
 
 unfoldable pub spent : Bracket → ℕ → Outcome
 spent b n = Refused 8 (middleOf b) n b
 
-unfoldable pub bisection : Float → (Float → Float) → Bracket → ℕ → Outcome
+unfoldable pub bisection : (Bracket → Float) → (Float → Float) → Bracket → ℕ → Outcome
 bisection width f b limit = runFrom (next width f) spent limit b 0
 
 -- the brackets of that run, the starting one first
-unfoldable pub bisectionBrackets : Float → (Float → Float) → Bracket → ℕ → List Bracket
+unfoldable pub bisectionBrackets : (Bracket → Float) → (Float → Float) → Bracket → ℕ → List Bracket
 bisectionBrackets width f b limit = statesFrom (next width f) limit b 0

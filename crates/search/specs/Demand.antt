@@ -10,9 +10,11 @@ use lib.Ieee.Positive.{positive}
 use Rattle.exact.specs.Value.{inUnits}
 use Rattle.exact.specs.Rounding.{apart}
 use Rattle.float.specs.Sign.{nought, magnitude}
-use Rattle.search.specs.Bisection.{small}
+use Rattle.search.specs.Bisection.{small, widthOf}
 use Rattle.search.specs.Brent.{tolerance}
 use Rattle.search.specs.declared.bracket.Bracket.{Bracket}
+use Rattle.search.specs.declared.method.Method.{Method}
+use Rattle.search.specs.declared.method.Method.the-variants.{ByBisection, ByBrent}
 use Rattle.search.specs.declared.bracket.Outcome.{Outcome}
 use Rattle.search.specs.declared.bracket.Outcome.the-variants.{ExactEnd, SmallResidual, Narrow, Refused}
 
@@ -22,6 +24,13 @@ Opposite a b = (T (lt a nought) × T (lt nought b)) ⊎ (T (lt nought a) × T (l
 
 abbrev pub Zero : Float → Type 0
 Zero r = eq r nought ≡ true
+
+-- ---- ends that demand 3 speaks of: doubles above zero
+pub record AboveZero (low high : Float) : Type 0 where
+  pub lower : T (positive low)
+  pub upper : T (positive high)
+  pub lower-fits : T (fits binary64 low)
+  pub upper-fits : T (fits binary64 high)
 
 -- ---- a bracket that demand 3 speaks of: doubles above zero, lower below upper, the residuals those of f and strictly opposite
 pub record Start (f : Float → Float) (b : Bracket) : Type 0 where
@@ -66,23 +75,29 @@ pub record Enclosed (f : Float → Float) (s b : Bracket) (v : Float) (near : �
 abbrev pub Stopped : ℕ → Bracket → Bracket → Type 0
 Stopped number b s = ((number ≡ 6) ⊎ (number ≡ 8) ⊎ (number ≡ 10)) × Within b s
 
--- of a run that starts at s: `Small` of the residual where the reason is a small residual, `near` the distance where it is narrow
-abbrev pub Owes : (Float → Type 0) → (Float → ℕ) → (Float → Float) → Bracket → Outcome → Type 0
-Owes Small near f s (ExactEnd v b) = ⊥
-Owes Small near f s (SmallResidual v n b) = Small (f v)
-Owes Small near f s (Narrow v n b) = Enclosed f s b v (near v)
-Owes Small near f s (Refused number v n b) = Stopped number b s
+-- of a run that starts at s: `Small` of the residual where the reason is a small residual, `near` the distance where it is narrow, from the bracket and the answer
+abbrev pub RunOwes : (Float → Type 0) → (Bracket → Float → ℕ) → (Float → Float) → Bracket → Outcome → Type 0
+RunOwes Small near f s (ExactEnd v b) = ⊥
+RunOwes Small near f s (SmallResidual v n b) = Small (f v)
+RunOwes Small near f s (Narrow v n b) = Enclosed f s b v (near b v)
+RunOwes Small near f s (Refused number v n b) = Stopped number b s
 
--- bisection: a residual under 1.0e-8 in magnitude, or nearer than the width; Brent: a zero, or nearer than three times its own tolerance
-abbrev pub BisectionOwes : Float → (Float → Float) → Bracket → Outcome → Type 0
-BisectionOwes width f s o = Owes (λ r. T (lt (magnitude r) small)) (λ v. inUnits width) f s o
+-- by the search: bisection, a residual under 1.0e-8 in magnitude; Brent, a zero
+abbrev pub Small : Method → Float → Type 0
+Small (ByBisection rule) r = T (lt (magnitude r) small)
+Small ByBrent r = Zero r
 
-abbrev pub BrentOwes : (Float → Float) → Bracket → Outcome → Type 0
-BrentOwes f s o = Owes Zero (λ v. 3 * inUnits (tolerance v)) f s o
+-- bisection, nearer than the width of its narrow rule; Brent, than three times its own tolerance
+abbrev pub near : Method → Bracket → Float → ℕ
+near (ByBisection rule) b v = inUnits (widthOf rule b)
+near ByBrent b v = 3 * inUnits (tolerance v)
 
--- ---- a whole search from its two ends, `ends f low high`: an end that is an exact zero, a refusal of the opening (5, 6, 7), or what its run owes
-abbrev pub SearchOwes : (Outcome → Type 0) → (Float → Float) → Bracket → Outcome → Type 0
-SearchOwes Run f s (ExactEnd v b) = ((v ≡ s .x1) ⊎ (v ≡ s .x2)) × Zero (f v) × (b ≡ s)
-SearchOwes Run f s (SmallResidual v n b) = Run (SmallResidual v n b)
-SearchOwes Run f s (Narrow v n b) = Run (Narrow v n b)
-SearchOwes Run f s (Refused number v n b) = (number ≡ 5) ⊎ (number ≡ 7) ⊎ ((number ≡ 6) × (b ≡ s)) ⊎ Run (Refused number v n b)
+abbrev pub Owes : Method → (Float → Float) → Bracket → Outcome → Type 0
+Owes m f s o = RunOwes (Small m) (near m) f s o
+
+-- ---- a whole search between two given ends, s = `ends f low high`: an end that is an exact zero, a refusal of the opening (5, 6, 7), or what its run owes
+abbrev pub SearchOwes : Method → (Float → Float) → Bracket → Outcome → Type 0
+SearchOwes m f s (ExactEnd v b) = ((v ≡ s .x1) ⊎ (v ≡ s .x2)) × Zero (f v) × (b ≡ s)
+SearchOwes m f s (SmallResidual v n b) = Owes m f s (SmallResidual v n b)
+SearchOwes m f s (Narrow v n b) = Owes m f s (Narrow v n b)
+SearchOwes m f s (Refused number v n b) = (number ≡ 5) ⊎ (number ≡ 7) ⊎ ((number ≡ 6) × (b ≡ s)) ⊎ Owes m f s (Refused number v n b)

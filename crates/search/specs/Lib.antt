@@ -1,3 +1,4 @@
+pub mod Decision
 pub mod Run
 pub mod Bracket
 pub mod Bisection

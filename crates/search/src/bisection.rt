@@ -1,11 +1,17 @@
 // Bisection: the middle, the tests after its residual is known, and the step.
 ghost use mathlib.Core.Path.{_≡_};
-ghost use Rattle.search.specs.Bisection.{middleOf, outside as outsideOf, step as stepOf, narrow as narrowOf, turn as turnOf};
+ghost use Rattle.search.specs.Bisection.{middleOf, outside as outsideOf, step as stepOf, widthOf, narrow as narrowOf, turn as turnOf};
 use crate::bracket::Bracket;
 use crate::bracket::Outcome;
 use float::sign::abs;
 use float::sign::is_finite;
 use float::sign::same_sign;
+
+// The narrow rule, a named choice: the width below which a bracket is narrow.
+pub enum Width {
+    // 1.0e-6
+    Millionth,
+}
 
 // What one turn comes to: an end of the search, or the next bracket.
 pub enum Turn {
@@ -52,16 +58,25 @@ impl Bracket {
         }
     }
 
-    // Whether the width before the step is below the one handed in.
-    pub fn narrow(self, width: f64) -> bool
-        ensures { λ r. ⌜ r ≡ narrowOf width self ⌝ }
+    // What the narrow rule asks of this bracket.
+    fn width(self, rule: Width) -> f64
+        ensures { λ r. ⌜ r ≡ widthOf rule self ⌝ }
     {
-        abs(self.x1 - self.x2) < width
+        match rule {
+            Width::Millionth => 1.0e-6,
+        }
+    }
+
+    // Whether the width before the step is below what the rule asks.
+    pub fn narrow(self, rule: Width) -> bool
+        ensures { λ r. ⌜ r ≡ narrowOf (widthOf rule) self ⌝ }
+    {
+        abs(self.x1 - self.x2) < self.width(rule)
     }
 
     // The tests once the residual at the middle is known; `taken` counts that evaluation.
-    pub fn turn(self, width: f64, residual: f64, taken: u32) -> Turn
-        ensures { λ r. ⌜ r ≡ turnOf width self residual taken ⌝ }
+    pub fn turn(self, rule: Width, residual: f64, taken: u32) -> Turn
+        ensures { λ r. ⌜ r ≡ turnOf (widthOf rule) self residual taken ⌝ }
     {
         if !is_finite(residual) {
             return Turn::Done(Outcome::Refused(6, 0.0, taken, self));
@@ -69,7 +84,7 @@ impl Bracket {
         if abs(residual) < 1.0e-8 {
             return Turn::Done(Outcome::SmallResidual(self.middle(), taken, self));
         }
-        if self.narrow(width) {
+        if self.narrow(rule) {
             return Turn::Done(Outcome::Narrow(self.middle(), taken, self));
         }
         Turn::Next(self.step(residual))

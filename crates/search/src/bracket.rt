@@ -81,27 +81,24 @@ pub fn refused(number: u32) -> Outcome
 }
 
 impl Bracket {
-    // Numbers 5, 6 and 7, and an end that is an exact answer.
+    // Numbers 6 and 7, and an end that is an exact answer.
     pub fn opened(self) -> Opening
         ensures { λ r. ⌜ r ≡ openedOf self ⌝ }
     {
-        if self.x1 < self.x2 {
-            if is_finite(self.r1) {
-                if is_finite(self.r2) {
-                    if self.r1 == 0.0 {
-                        return Opening::Closed(Outcome::ExactEnd(self.x1, self));
-                    }
-                    if self.r2 == 0.0 {
-                        return Opening::Closed(Outcome::ExactEnd(self.x2, self));
-                    }
-                    if same_sign(self.r1, self.r2) {
-                        return Opening::Closed(refused(7));
-                    }
-                    return Opening::Open(self);
+        if is_finite(self.r1) {
+            if is_finite(self.r2) {
+                if self.r1 == 0.0 {
+                    return Opening::Closed(Outcome::ExactEnd(self.x1, self));
                 }
+                if self.r2 == 0.0 {
+                    return Opening::Closed(Outcome::ExactEnd(self.x2, self));
+                }
+                if same_sign(self.r1, self.r2) {
+                    return Opening::Closed(refused(7));
+                }
+                return Opening::Open(self);
             }
-            return Opening::Closed(Outcome::Refused(6, 0.0, 0, self));
         }
-        Opening::Closed(refused(5))
+        Opening::Closed(Outcome::Refused(6, 0.0, 0, self))
     }
 }

@@ -2,3 +2,4 @@
 pub mod bisection;
 pub mod bracket;
 pub mod brent;
+pub mod method;

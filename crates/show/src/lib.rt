@@ -1,5 +1,6 @@
 // How results are written: each double as the sixteen digits of its bits, an answer as document 01's columns.
 use libc::STDOUT_FILENO;
+use search::bracket::Bracket;
 use vessel::answer::Answer;
 use vessel::answer::Found;
 
@@ -25,18 +26,18 @@ pub fn tell(name: &[u8], x: f64) {
     write(b"\n");
 }
 
-fn steps(n: u32, lower: f64, upper: f64) {
+fn steps(n: u32, bracket: Bracket) {
     write(b", steps ");
     io::print_decimal(STDOUT_FILENO, n as u64);
     write(b", bracket");
-    double(lower);
-    double(upper);
+    double(bracket.x1);
+    double(bracket.x2);
 }
 
 fn found(reason: &[u8], f: Found) {
     write(reason);
     double(f.value);
-    steps(f.steps, f.lower, f.upper);
+    steps(f.steps, f.bracket);
     if f.inside {
         write(b", inside\n");
     } else {
@@ -67,7 +68,7 @@ pub fn answer(name: &[u8], a: Answer) {
             io::print_decimal(STDOUT_FILENO, r.number as u64);
             write(b", value");
             double(r.value);
-            steps(r.steps, r.lower, r.upper);
+            steps(r.steps, r.bracket);
             write(b"\n");
         }
     }

@@ -9,16 +9,16 @@ use lib.Ieee.{Float}
 use lib.Ieee.Scale.{finite}
 use Rattle.search.specs.declared.bracket.Outcome.{Outcome}
 use Rattle.search.specs.declared.bracket.Outcome.the-variants.{ExactEnd, SmallResidual, Narrow, Refused}
-use Rattle.pairs.specs.Decision.{Row, _⇒_, decided}
+use Rattle.search.specs.Decision.{Row, _⇒_, decided}
 use Rattle.pairs.specs.Pairs.{steps, start}
-use Rattle.pairs.specs.declared.equation.Equation.{Equation}
+use Rattle.pairs.specs.declared.question.Question.{Question}
 use Rattle.vessel.specs.Answer.{refused, answered, valueOf}
 use Rattle.vessel.specs.Range.{rule, refusal}
 use Rattle.vessel.specs.Calls.{formula, property}
 use Rattle.vessel.specs.Searches.{checks, outcome, mark, search as searchOf}
 use Rattle.vessel.specs.Table.{Given, Exactly, numberOf, numberIn}
 use Rattle.vessel.specs.declared.answer.Answer.the-variants.{Value}
-use Rattle.vessel.specs.declared.range.Region.{Region}
+use Rattle.pairs.specs.declared.row.Region.{Region}
 use Rattle.vessel.specs.declared.property.Property.{Property}
 
 -- ---- over any list
@@ -45,9 +45,9 @@ number-kept (SmallResidual x n b) inside = refl
 number-kept (Narrow x n b) inside = refl
 number-kept (Refused k x n b) inside = refl
 
-pub search-number : (e : Equation) (limit n : ℕ) → Exactly numberIn (numberOf (searchOf e limit)) n (checks e limit) (steps e (start e) limit)
+pub search-number : (q : Question) (limit n : ℕ) → Exactly numberIn (numberOf (searchOf q limit)) n (checks q limit) (steps q (start q) limit)
 unfolding searchOf outcome
-search-number e limit n = rw (number-kept (outcome e limit) (mark e (valueOf (outcome e limit)))) (exactly numberIn n (checks e limit) (steps e (start e) limit))
+search-number q limit n = rw (number-kept (outcome q limit) (mark q (valueOf (outcome q limit)))) (exactly numberIn n (checks q limit) (steps q (start q) limit))
 
 -- the (p,T) rule
 pub rule-number : (region : Region) (p T : Float) (n : ℕ) → Exactly (λ k. k) (refusal region p T) n (rule region p T) 0

@@ -5,7 +5,7 @@ use lib.Ieee.{Float}
 use Rattle.float.specs.Sign.{nought}
 use Rattle.common.specs.declared.boundaries.Boundary.{Boundary}
 use Rattle.common.specs.declared.boundaries.Boundary.the-variants.{At, Refused as OutOfRange}
-use Rattle.search.specs.declared.bracket.Bracket.{Bracket}
+use Rattle.search.specs.Bracket.{noBracket}
 use Rattle.search.specs.declared.bracket.Outcome.{Outcome}
 use Rattle.search.specs.declared.bracket.Outcome.the-variants.{ExactEnd as EndFound, SmallResidual as SmallFound, Narrow as NarrowFound, Refused as Stopped}
 use Rattle.vessel.specs.declared.answer.Found.{Found}
@@ -14,22 +14,19 @@ use Rattle.vessel.specs.declared.answer.Answer.the-variants.{Value, Exac
 
 -- nos. 1 to 5, 7, 9, 11: value 0, steps 0, bracket 0 and 0
 abbrev pub refused : ℕ → Answer
-refused n = Refused (record { number = n; value = nought; steps = 0; lower = nought; upper = nought })
+refused n = Refused (record { number = n; value = nought; steps = 0; bracket = noBracket })
 
 -- what a boundary answers, as an answer
 unfoldable pub line : Boundary → Answer
 line (At x) = Value x
 line (OutOfRange n) = refused n
 
--- ---- an outcome of a search as an answer: the bracket without its residuals, and the mark of the value found
-abbrev pub bracketed : Float → ℕ → Bracket → Bool → Found
-bracketed x n b mark = record { value = x; steps = n; lower = b .x1; upper = b .x2; inside = mark }
-
+-- ---- an outcome of a search as an answer: its bracket whole, and the mark of the value found
 unfoldable pub answered : Outcome → Bool → Answer
-answered (EndFound x b) mark = ExactEnd (bracketed x 0 b mark)
-answered (SmallFound x n b) mark = SmallResidual (bracketed x n b mark)
-answered (NarrowFound x n b) mark = Narrow (bracketed x n b mark)
-answered (Stopped k x n b) mark = Refused (record { number = k; value = x; steps = n; lower = b .x1; upper = b .x2 })
+answered (EndFound x b) mark = ExactEnd (record { value = x; steps = 0; bracket = b; inside = mark })
+answered (SmallFound x n b) mark = SmallResidual (record { value = x; steps = n; bracket = b; inside = mark })
+answered (NarrowFound x n b) mark = Narrow (record { value = x; steps = n; bracket = b; inside = mark })
+answered (Stopped k x n b) mark = Refused (record { number = k; value = x; steps = n; bracket = b })
 
 -- the value that an outcome carries
 unfoldable pub valueOf : Outcome → Float
@@ -61,11 +58,11 @@ pub record Columns : Type 0 where
   pub mark : Mark
 
 abbrev pub searched : Reason → Found → Columns
-searched why f = record { number = 0; value = f .value; reason = why; steps = f .steps; lower = f .lower; upper = f .upper; mark = cond (f .inside) inside outside }
+searched why f = record { number = 0; value = f .value; reason = why; steps = f .steps; lower = f .bracket .x1; upper = f .bracket .x2; mark = cond (f .inside) inside outside }
 
 abbrev pub columns : Answer → Columns
 columns (Value x) = record { number = 0; value = x; reason = plain; steps = 0; lower = nought; upper = nought; mark = unmarked }
 columns (ExactEnd f) = searched exactEnd f
 columns (SmallResidual f) = searched smallResidual f
 columns (Narrow f) = searched narrow f
-columns (Refused r) = record { number = r .number; value = r .value; reason = none; steps = r .steps; lower = r .lower; upper = r .upper; mark = unmarked }
+columns (Refused r) = record { number = r .number; value = r .value; reason = none; steps = r .steps; lower = r .bracket .x1; upper = r .bracket .x2; mark = unmarked }

@@ -9,13 +9,13 @@ use Rattle.common.specs.declared.boundaries.Range.the-variants.{T23, P23}
 use Rattle.r1.specs.Region1 as region1
 use Rattle.r2.specs.Region2 as region2
 use Rattle.r4.specs.Saturation.{saturationPressureAt, saturationTemperatureAt}
-use Rattle.pairs.specs.Decision.{_⇒_, decided}
+use Rattle.search.specs.Decision.{_⇒_, decided}
 use Rattle.vessel.specs.Answer.{refused, line}
 use Rattle.vessel.specs.Range.{refusal}
 use Rattle.vessel.specs.declared.answer.Answer.{Answer}
 use Rattle.vessel.specs.declared.answer.Answer.the-variants.{Value}
-use Rattle.vessel.specs.declared.range.Region.{Region}
-use Rattle.vessel.specs.declared.range.Region.the-variants.{One, Two}
+use Rattle.pairs.specs.declared.row.Region.{Region}
+use Rattle.pairs.specs.declared.row.Region.the-variants.{One, Two}
 use Rattle.vessel.specs.declared.property.Property.{Property}
 use Rattle.vessel.specs.declared.property.Property.the-variants.{Volume, InternalEnergy, Entropy, Enthalpy, Cp, Cv, SpeedOfSound}
 
@@ -51,7 +51,7 @@ unfoldable pub saturation-temperature : Float → Answer
 saturation-temperature p = line (saturationTemperatureAt p)
 
 unfoldable pub B23-pressure : Float → Answer
-B23-pressure T = line (checked 2 T23 T (B23-p T))
+B23-pressure T = line (checked T23 T (B23-p T))
 
 unfoldable pub B23-temperature : Float → Answer
-B23-temperature p = line (checked 3 P23 p (B23-T p))
+B23-temperature p = line (checked P23 p (B23-T p))

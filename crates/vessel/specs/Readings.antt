@@ -16,7 +16,7 @@ use Rattle.search.specs.Brent.{plain}
 use Rattle.vessel.specs.Range.{refusal}
 use Rattle.vessel.specs.Calls.{property}
 use Rattle.vessel.specs.Table.{numberOf}
-use Rattle.vessel.specs.declared.range.Region.the-variants.{One, Two}
+use Rattle.pairs.specs.declared.row.Region.the-variants.{One, Two}
 use Rattle.vessel.specs.declared.property.Property.the-variants.{Volume}
 
 -- the reading's number, what is found, and what document 01 says

@@ -6,7 +6,7 @@ use mathlib.Core.Bool.{true, false}
 use mathlib.Core.List.{List, [], _∷_}
 use Rattle.search.specs.declared.bracket.Outcome.{Outcome}
 use Rattle.search.specs.declared.bracket.Outcome.the-variants.{ExactEnd, SmallResidual, Narrow, Refused}
-use Rattle.pairs.specs.Decision.{Row, _⇒_}
+use Rattle.search.specs.Decision.{Row, _⇒_}
 use Rattle.vessel.specs.Answer.{columns}
 use Rattle.vessel.specs.declared.answer.Answer.{Answer}
 

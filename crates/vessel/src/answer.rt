@@ -1,6 +1,6 @@
 // What a call answers: a value with its reason, or a refusal with its number and bracket.
 ghost use mathlib.Core.Path.{_≡_};
-ghost use Rattle.vessel.specs.Answer.{refused as refusedOf, line as lineOf, bracketed as bracketedOf, answered as answeredOf, valueOf};
+ghost use Rattle.vessel.specs.Answer.{refused as refusedOf, line as lineOf, answered as answeredOf, valueOf};
 use common::boundaries::Boundary;
 use search::bracket::Bracket;
 use search::bracket::Outcome;
@@ -9,8 +9,7 @@ use search::bracket::Outcome;
 pub struct Found {
     pub value: f64,
     pub steps: u32,
-    pub lower: f64,
-    pub upper: f64,
+    pub bracket: Bracket,
     pub inside: bool,
 }
 
@@ -19,8 +18,7 @@ pub struct Refusal {
     pub number: u32,
     pub value: f64,
     pub steps: u32,
-    pub lower: f64,
-    pub upper: f64,
+    pub bracket: Bracket,
 }
 
 pub enum Answer {
@@ -40,8 +38,12 @@ pub fn refused(number: u32) -> Answer
         number,
         value: 0.0,
         steps: 0,
-        lower: 0.0,
-        upper: 0.0,
+        bracket: Bracket {
+            x1: 0.0,
+            x2: 0.0,
+            r1: 0.0,
+            r2: 0.0,
+        },
     })
 }
 
@@ -67,32 +69,34 @@ pub fn value(outcome: Outcome) -> f64
     }
 }
 
-fn bracketed(value: f64, steps: u32, b: Bracket, inside: bool) -> Found
-    ensures { λ r. ⌜ r ≡ bracketedOf value steps b inside ⌝ }
-{
-    Found {
-        value,
-        steps,
-        lower: b.x1,
-        upper: b.x2,
-        inside,
-    }
-}
-
 // An outcome of a search as an answer, with the mark of its value.
 pub fn answered(outcome: Outcome, mark: bool) -> Answer
     ensures { λ r. ⌜ r ≡ answeredOf outcome mark ⌝ }
 {
     match outcome {
-        Outcome::ExactEnd(x, b) => Answer::ExactEnd(bracketed(x, 0, b, mark)),
-        Outcome::SmallResidual(x, n, b) => Answer::SmallResidual(bracketed(x, n, b, mark)),
-        Outcome::Narrow(x, n, b) => Answer::Narrow(bracketed(x, n, b, mark)),
+        Outcome::ExactEnd(x, b) => Answer::ExactEnd(Found {
+            value: x,
+            steps: 0,
+            bracket: b,
+            inside: mark,
+        }),
+        Outcome::SmallResidual(x, n, b) => Answer::SmallResidual(Found {
+            value: x,
+            steps: n,
+            bracket: b,
+            inside: mark,
+        }),
+        Outcome::Narrow(x, n, b) => Answer::Narrow(Found {
+            value: x,
+            steps: n,
+            bracket: b,
+            inside: mark,
+        }),
         Outcome::Refused(k, x, n, b) => Answer::Refused(Refusal {
             number: k,
             value: x,
             steps: n,
-            lower: b.x1,
-            upper: b.x2,
+            bracket: b,
         }),
     }
 }

@@ -1,19 +1,15 @@
 // The (p,T) rule: where each region begins and stops.
 ghost use mathlib.Core.Path.{_≡_};
-ghost use Rattle.pairs.specs.Decision.{decided};
+ghost use Rattle.search.specs.Decision.{decided};
 ghost use Rattle.vessel.specs.Range.{limits, refusal as refusalOf, inside as insideOf};
 use common::boundaries::Range;
 use common::boundaries::inside as in_range;
 use common::constant::P_MAX;
 use float::sign::is_finite;
-use pairs::ends::T2pmax_reg2;
-use r4::region4_sat_pT::p_saturation_formula;
-
-// The region, always named by the caller.
-pub enum Region {
-    One,
-    Two,
-}
+use pairs::row::Region;
+use r4::ends::End;
+use r4::ends::T2pmax_reg2;
+use r4::ends::T2pmin_reg1;
 
 fn limits_1(p: f64, T: f64) -> u32
     ensures { λ r. ⌜ r ≡ decided (limits Region.One p T) 0 ⌝ }
@@ -24,10 +20,10 @@ fn limits_1(p: f64, T: f64) -> u32
     if P_MAX < p {
         return 3;
     }
-    let least = p_saturation_formula(T);
-    if !is_finite(least) {
+    let lowest = T2pmin_reg1(T);
+    let End::At(least) = lowest else {
         return 9;
-    }
+    };
     if p < least {
         return 3;
     }
@@ -43,10 +39,10 @@ fn limits_2(p: f64, T: f64) -> u32
     if !in_range(Range::P2, p) {
         return 3;
     }
-    let most = T2pmax_reg2(T);
-    if !is_finite(most) {
+    let highest = T2pmax_reg2(T);
+    let End::At(most) = highest else {
         return 9;
-    }
+    };
     if most < p {
         return 3;
     }

@@ -28,12 +28,12 @@ pub fn saturation_temperature(p: f64) -> Answer
 pub fn B23_pressure(T: f64) -> Answer
     ensures { λ r. ⌜ r ≡ B23-pressure T ⌝ }
 {
-    line(checked(2, Range::T23, T, B23_T2p(T)))
+    line(checked(Range::T23, T, B23_T2p(T)))
 }
 
 // The temperature of B23 at p.
 pub fn B23_temperature(p: f64) -> Answer
     ensures { λ r. ⌜ r ≡ B23-temperature p ⌝ }
 {
-    line(checked(3, Range::P23, p, B23_p2T(p)))
+    line(checked(Range::P23, p, B23_p2T(p)))
 }

@@ -15,9 +15,12 @@ returns c = rw (← c .before .is-finite .ensures, not-true (c .before .is-finit
 inside-requires : tie.Need-inside-requires
 inside-requires c κs = search needs
 
+number-requires : tie.Need-number-requires
+number-requires c κs = search needs
+
 returns-2 : tie.Need-returns-2
 unfolding checked
-returns-2 c = rw (← c .before .before .before .is-finite .ensures, not-false (c .before .before .before .is-finite .result) (c .before .before .if1 .left), ← c .before .inside .ensures, not-true (c .before .inside .result) (c .if2 .taken))
+returns-2 c = rw (← c .before .before .before .before .is-finite .ensures, not-false (c .before .before .before .before .is-finite .result) (c .before .before .before .if1 .left), ← c .before .before .inside .ensures, not-true (c .before .before .inside .result) (c .before .if2 .taken), ← c .number .ensures)
 
 found-requires : tie.Need-found-requires
 found-requires c κs = search needs
@@ -29,4 +32,4 @@ returns-3 c = rw (← c .before .before .before .before .is-finite .ensures, not
 pub checked-spec : {M : Type 1} → statement M
 checked-spec =
     tie.close
-    (tie.spec is-finite-requires returns inside-requires returns-2 found-requires returns-3)
+    (tie.spec is-finite-requires returns inside-requires number-requires returns-2 found-requires returns-3)

@@ -10,28 +10,28 @@ use Rattle.pairs.proofs.root.zbrent.Statement.{statement}
 use Rattle.pairs.proofs.root.zbrent.Tie as tie
 
 abbrev Inv-loop : tie.InvT-loop
-Inv-loop equation limit s₀ n₀ s n = (n ≤ limit) × (runFrom (next (residual equation)) spent (limit - n) s n ≡ runFrom (next (residual equation)) spent limit s₀ 0)
+Inv-loop question limit s₀ n₀ s n = (n ≤ limit) × (runFrom (next (residual question)) spent (limit - n) s n ≡ runFrom (next (residual question)) spent limit s₀ 0)
 
 abbrev μ-loop : tie.MeasureT-loop
-μ-loop equation limit s₀ n₀ s n = limit - n
+μ-loop question limit s₀ n₀ s n = limit - n
 
 start-requires : tie.Need-start-requires Inv-loop μ-loop
 start-requires c κs = search needs
 
 loop-holds : tie.Need-loop-holds Inv-loop μ-loop
-loop-holds c = (search needs, loop-starts (next (residual (c .before .args .equation))) spent (c .before .args .limit) (c .start .result))
+loop-holds c = (search needs, loop-starts (next (residual (c .before .args .question))) spent (c .before .args .limit) (c .start .result))
 
 -- the run from the first state is the run from the starting bracket
-whole : (l : tie.At-loop Inv-loop μ-loop) → runFrom (next (residual (l .before .before .args .equation))) spent (l .before .before .args .limit) (l .before .start .result) 0 ≡ zbrent (residual (l .before .before .args .equation)) (l .before .before .args .start) (l .before .before .args .limit)
+whole : (l : tie.At-loop Inv-loop μ-loop) → runFrom (next (residual (l .before .before .args .question))) spent (l .before .before .args .limit) (l .before .start .result) 0 ≡ zbrent (residual (l .before .before .args .question)) (l .before .before .args .start) (l .before .before .args .limit)
 unfolding zbrent
 whole l = rw (l .before .start .ensures)
 
 -- one turn: it stops where it aims, or its step is the definition's
-at-stop : (c : tie.After-o Inv-loop μ-loop) → next (residual (c .before .before .before .before .before .before .args .equation)) (c .before .before .before .before .loop .s) (c .before .before .before .before .loop .n) ≡ stop (c .o .given .0 .0)
+at-stop : (c : tie.After-o Inv-loop μ-loop) → next (residual (c .before .before .before .before .before .before .args .question)) (c .before .before .before .before .loop .s) (c .before .before .before .before .loop .n) ≡ stop (c .o .given .0 .0)
 unfolding next
 at-stop c = rw (sym (c .before .before .aim .ensures) ∙ c .o .given .1)
 
-at-step : (c : tie.After-step Inv-loop μ-loop) → next (residual (c .before .before .before .before .before .before .before .before .before .args .equation)) (c .before .before .before .before .before .before .before .loop .s) (c .before .before .before .before .before .before .before .loop .n) ≡ turnGo (c .step .result)
+at-step : (c : tie.After-step Inv-loop μ-loop) → next (residual (c .before .before .before .before .before .before .before .before .before .args .question)) (c .before .before .before .before .before .before .before .loop .s) (c .before .before .before .before .before .before .before .loop .n) ≡ turnGo (c .step .result)
 unfolding next
 at-step c = rw (sym (c .before .before .before .before .before .aim .ensures) ∙ c .before .before .before .t .given .1, c .step .ensures, c .before .residual .ensures)
 
@@ -44,7 +44,7 @@ enum-known-o c = search needs
 returns : tie.Need-returns Inv-loop μ-loop
 returns c =
     let l = c .before .before .before .before .before in
-    sym (loop-stop (next (residual (l .before .before .args .equation))) spent (l .before .before .args .limit) (l .loop .s) (l .loop .n) _ (c .before .before .before .before .loop-test .taken) (at-stop (c .before)))
+    sym (loop-stop (next (residual (l .before .before .args .question))) spent (l .before .before .args .limit) (l .loop .s) (l .loop .n) _ (c .before .before .before .before .loop-test .taken) (at-stop (c .before)))
     ∙ l .loop .inv .1 ∙ whole l
 
 enum-known-t : tie.Need-enum-known-t Inv-loop μ-loop
@@ -66,7 +66,7 @@ returns-2 : tie.Need-returns-2 Inv-loop μ-loop
 returns-2 c =
     let t = c .before .before .before in
     let l = t .before .before .before .before .before .before .before in
-    sym (loop-stop (next (residual (l .before .before .args .equation))) spent (l .before .before .args .limit) (l .loop .s) (l .loop .n) _ (t .before .before .before .before .before .before .loop-test .taken) (at-step t ∙ ap turnGo (c .before .o2 .given .1)))
+    sym (loop-stop (next (residual (l .before .before .args .question))) spent (l .before .before .args .limit) (l .loop .s) (l .loop .n) _ (t .before .before .before .before .before .before .loop-test .taken) (at-step t ∙ ap turnGo (c .before .o2 .given .1)))
     ∙ l .loop .inv .1 ∙ whole l
 
 enum-known-u : tie.Need-enum-known-u Inv-loop μ-loop
@@ -80,7 +80,7 @@ loop-again c =
     let t = c .before .before .before in
     let l = t .before .before .before .before .before .before .before in (
       search needs,
-      sym (loop-go (next (residual (l .before .before .args .equation))) spent (l .before .before .args .limit) (l .loop .s) (l .loop .n) _ (t .before .before .before .before .before .before .loop-test .taken) (at-step t ∙ ap turnGo (c .before .u .given .1)))
+      sym (loop-go (next (residual (l .before .before .args .question))) spent (l .before .before .args .limit) (l .loop .s) (l .loop .n) _ (t .before .before .before .before .before .before .loop-test .taken) (at-step t ∙ ap turnGo (c .before .u .given .1)))
           ∙ l .loop .inv .1,
     )
 
@@ -92,7 +92,7 @@ unfolding spent
 returns-3 c =
     let l = c .before .before in
     rw (c .bracket .ensures)
-    (sym (loop-spent (next (residual (l .before .before .args .equation))) spent (l .before .before .args .limit) (l .loop .s) (l .loop .n) (c .before .loop-test .left))
+    (sym (loop-spent (next (residual (l .before .before .args .question))) spent (l .before .before .args .limit) (l .loop .s) (l .loop .n) (c .before .loop-test .left))
     ∙ l .loop .inv .1 ∙ whole l)
 
 pub zbrent-spec : {M : Type 1} → statement M

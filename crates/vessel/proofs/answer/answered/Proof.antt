@@ -7,35 +7,26 @@ use Rattle.vessel.proofs.answer.answered.Tie as tie
 enum-known-outcome : tie.Need-enum-known-outcome
 enum-known-outcome c = search needs
 
-bracketed-requires : tie.Need-bracketed-requires
-bracketed-requires c κs = search needs
-
 enum-known-outcome-2 : tie.Need-enum-known-outcome-2
 enum-known-outcome-2 c = search needs
 
-bracketed-requires-2 : tie.Need-bracketed-requires-2
-bracketed-requires-2 c κs = search needs
-
 enum-known-outcome-3 : tie.Need-enum-known-outcome-3
 enum-known-outcome-3 c = search needs
-
-bracketed-requires-3 : tie.Need-bracketed-requires-3
-bracketed-requires-3 c κs = search needs
 
 enum-known-outcome-4 : tie.Need-enum-known-outcome-4
 enum-known-outcome-4 c = search needs
 
 returns : tie.Need-returns
 unfolding answered
-returns c = rw (c .before .before .outcome .given .1, ← c .bracketed .ensures)
+returns c = rw (c .before .outcome .given .1)
 
 returns-2 : tie.Need-returns-2
 unfolding answered
-returns-2 c = rw (c .before .before .outcome2 .given .1, ← c .bracketed2 .ensures)
+returns-2 c = rw (c .before .outcome2 .given .1)
 
 returns-3 : tie.Need-returns-3
 unfolding answered
-returns-3 c = rw (c .before .before .outcome3 .given .1, ← c .bracketed3 .ensures)
+returns-3 c = rw (c .before .outcome3 .given .1)
 
 returns-4 : tie.Need-returns-4
 unfolding answered
@@ -46,11 +37,8 @@ answered-spec =
     tie.close
     (tie.spec
     enum-known-outcome
-    bracketed-requires
     enum-known-outcome-2
-    bracketed-requires-2
     enum-known-outcome-3
-    bracketed-requires-3
     enum-known-outcome-4
     returns
     returns-2
