@@ -1,7 +1,7 @@
 -- Number 9 at an end means what document 01 says: where the fixed input is a double in its range, an end that is read off a line is the double of that line's formula, and missing exactly where
 -- that is not finite, since the line's own range holds there. The order of doubles is that of exact values. Assumes nothing.
-use mathlib.Core.Path.{_≡_, refl, sym, ap, subst}
-use mathlib.Core.Bool.{Bool, true, false, cond, _&&_}
+use mathlib.Core.Path.{_≡_, refl, sym, subst}
+use mathlib.Core.Bool.{Bool, true, false, cond}
 use lib.Dec.{T}
 use lib.Ieee.{Float, fits, lt, le, add, sub, mul, div}
 use lib.Ieee.Bits.{is-true}
@@ -18,7 +18,6 @@ use Rattle.common.specs.declared.boundaries.Range.{Range}
 use Rattle.common.specs.declared.boundaries.Range.the-variants.{T1, P1, T2, T4, P4}
 use Rattle.r4.specs.Saturation.{saturationPressure, saturationTemperature}
 use Rattle.r4.specs.Ends.{readOff, p-lowest-1, T-most-1, T-least-2, p-most-2}
-use Rattle.r4.specs.declared.ends.End.{End}
 use Rattle.r4.specs.declared.ends.End.the-variants.{At}
 
 -- 0.000611213, and the saturation pressure at 623.15 K with what is computed of it

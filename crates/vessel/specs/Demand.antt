@@ -2,7 +2,6 @@
 use Prim.Native.Nat.{ℕ}
 use mathlib.Core.Path.{_≡_}
 use mathlib.Core.Logic.{_⊎_}
-use lib.Ieee.{Float}
 use Rattle.search.specs.Search.{ends}
 use Rattle.search.specs.Demand as search
 use Rattle.search.specs.Demand.{Zero, Within, Enclosed, Small, near}

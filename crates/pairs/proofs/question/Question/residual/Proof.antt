@@ -1,6 +1,5 @@
 -- `pairs::question::Question::residual` meets its contract: by the search, at what the formula gives at the state. Assumes nothing.
 use mathlib.Core.Path.{_≡_, _∙_, ap}
-use lib.Ieee.{Float}
 use Rattle.pairs.specs.Residual.{rowOf, stateOf, residual}
 use Rattle.pairs.specs.declared.question.State.{State}
 use borrow.Author.Needs.{needs}

@@ -1,6 +1,6 @@
 -- `search::bracket::Bracket::width` meets its contract: case by case. Assumes nothing.
 use mathlib.Core.Path.{_≡_, refl}
-use lib.Ieee.{Float, binary64, ofBits}
+use lib.Ieee.{ofBits}
 use Rattle.float.specs.Decimal.{−_, number, rounded}
 use Rattle.search.specs.Bisection.{widthOf}
 use Rattle.search.specs.declared.bracket.Bracket.{Bracket}
