@@ -75,7 +75,8 @@ struct climboat_answer {
     double upper;
 };
 
-/* What the archive exports: each call writes number, reason, steps, mark and value, lower, upper into two lent arrays. Use the functions below instead. */
+/* What the archive exports: each call writes number, reason, steps, mark and value, lower, upper into two lent arrays. Use the functions below instead.
+ * A name keeps the sizes of its arrays: a wider record will have names of its own, and no program that is built already is overrun. */
 void climboat_pT_record(uint32_t region, uint32_t property, double p, double T, uint32_t numbers[4], double doubles[3]);
 void climboat_saturation_pressure_record(double T, uint32_t numbers[4], double doubles[3]);
 void climboat_saturation_temperature_record(double p, uint32_t numbers[4], double doubles[3]);

@@ -1,9 +1,10 @@
 // A question's search, from the ends of its pair or between any two given ends, to its outcome.
 ghost use mathlib.Core.Path.{_≡_};
-ghost use Rattle.pairs.specs.Pairs.{steps as stepsOf, between as betweenOf, pair as pairOf};
+ghost use Rattle.pairs.specs.Pairs.{asks, steps as stepsOf, between as betweenOf, pair as pairOf};
 use crate::question::Question;
 use crate::root::bisection;
 use crate::root::zbrent;
+use crate::row::Pair;
 use r4::ends::End;
 use search::bracket::Bracket;
 use search::bracket::Opening;
@@ -46,17 +47,21 @@ pub fn between(question: Question, low: f64, high: f64, limit: u32) -> Outcome
 }
 
 // The outcome of a pair, whatever its inputs: an end that is missing is 9.
-pub fn pair(question: Question, limit: u32) -> Outcome
-    ensures { λ r. ⌜ r ≡ pairOf question limit ⌝ }
+pub fn pair(named: Pair, fixed: f64, target: f64, limit: u32) -> Outcome
+    ensures { λ r. ⌜ r ≡ pairOf (asks named fixed target) limit ⌝ }
 {
-    let pair = question.pair;
-    let lower = pair.lower_end(question.fixed);
+    let lower = named.lower_end(fixed);
     let End::At(low) = lower else {
         return refused(9);
     };
-    let upper = pair.upper_end(question.fixed);
+    let upper = named.upper_end(fixed);
     let End::At(high) = upper else {
         return refused(9);
+    };
+    let question = Question {
+        pair: named,
+        fixed,
+        target,
     };
     between(question, low, high, limit)
 }

@@ -68,7 +68,7 @@ fn outcome(question: Question, limit: u32) -> Outcome
     if volume_refused(question) {
         return refused(4);
     }
-    search_pair(question, limit)
+    search_pair(pair, question.fixed, question.target, limit)
 }
 
 // The mark of a found x: a pressure with its T, a temperature with its p.
