@@ -58,7 +58,7 @@ function begins(text,    n, name, i, first) {
 # part[2], part[4], .. are the names. A list is names with a comma or "and" between them; "in" or "of" and a crate or a file after a list is its place.
 function cell(text, kind,    n, part, i, j, place, full) {
     n = split(text, part, "`")
-    if (n && n % 2 == 0) fail(FNR, "a backtick is missing")
+    if (n && n % 2 == 0) { fail(FNR, "a backtick is missing"); return }
     for (i = 2; i <= n; i = j) {
         for (j = i + 2; j <= n && part[j - 1] ~ /^(, | and |, and )$/; j += 2);
         place = j <= n && part[j - 1] ~ /^ (in|of) $/ && (part[j] in crates || part[j] in paths) ? part[j] : ""
@@ -109,12 +109,12 @@ function one(kind, name, scope, other,    n, at, i, found, count) {
     }
     if (count == 1 || (count > 1 && kind == "used")) return
     if (count > 1) { fail(FNR, "`" name "` is in each of" found ": say which one"); return }
-    if (n == 0) scope = kind == "theorem" ? " (a file is to be named here)" : " (a crate is to be named here)"
-    else { gsub(/ /, " or ", scope); sub(/^ or/, "", scope) }
+    if (n == 0) { fail(FNR, "`" name "`: the " (kind == "theorem" ? "file" : "crate") " that has it is to be named here" elsewhere(kind, name)); return }
+    gsub(/ /, " or ", scope); sub(/^ or/, "", scope)
     fail(FNR, "`" name "` is no " (other != "" ? said(kind) ", " : "") said(other != "" ? other : kind) " of" scope elsewhere(kind, name))
 }
 
-function said(kind) { return kind == "code" ? "function or type" : kind == "used" ? "name that is used" : kind }
+function said(kind) { return kind == "code" ? "function or type" : kind == "used" ? "used name" : kind }
 function elsewhere(kind, name) { return (kind, name) in where ? " (it is in" where[kind, name] ")" : "" }
 
 # ---- what the page must name
