@@ -1,12 +1,12 @@
 -- Where an operation does not overflow: the exact result is at most some double in size. Assumes nothing.
-use mathlib.Core.Path.{_≡_, sym, ap, _∙_, subst}
-use mathlib.Core.Bool.{Bool, true, false, cond}
+use mathlib.Core.Path.{_≡_, refl, sym, ap, _∙_, subst}
+use mathlib.Core.Bool.{Bool, true, false, cond, _&&_, Bool·beq}
 use Prim.Native.Nat.{ℕ, zero, suc, _+_, _-_, _*_, _^_, _≤_, _<_}
 use native.Mathlib.Nat.{le-trans, le-of-eq, lt-of-le-of-lt, mul-one, mul-comm, mul-assoc, mul-right-comm, mul-pos, mul-le-mul-right, le-of-mul-le-mul-right}
 use native.Mathlib.Omega.{arith}
 use lib.Dec.{T, ltb, lt→ltb}
 use lib.Pow.{pow-pos}
-use lib.Ieee.{Float, nan, inf, fin, binary64, up, down, odd, units, round, unlike, sum, add, mul, div, neg, sub}
+use lib.Ieee.{Float, nan, inf, fin, binary64, up, down, odd, units, round, unlike, sum, add, mul, div, neg, sub, isNan}
 use lib.Ieee.Fits.{down-pos, round-is, up-pos}
 use lib.Ieee.Order.{drop, kept}
 use Rattle.exact.specs.Value.{unit, inUnits, when, unless, plus, minus, double}
@@ -123,3 +123,41 @@ div-finite (fin s m e) (fin t n d) b p q B c h =
 
             end : (b D N u : ℕ) → b * D * (N * u) ≡ b * (N * D) * u
             end b D N u = omega arith
+
+-- ---- a sum of two doubles may overflow, but is no NaN
+round-number : (s : Bool) (a c : ℕ) → isNan (round binary64 s a c) ≡ false
+unfolding units odd isNan
+round-number s a c = ap isNan (round-is binary64 s a c) ∙ go (ltb (q * 2 ^ k) (2 ^ 2098)) q
+  where
+    q : ℕ
+    q = kept 53 (a * 2 ^ 1074) c
+
+    k : ℕ
+    k = drop 53 (a * 2 ^ 1074) c
+
+    go : (b : Bool) (q : ℕ) → isNan (cond b (odd 54 s q k 1074) (inf s)) ≡ false
+    go true zero = refl
+    go true (suc q) = refl
+    go false q = refl
+
+pub add-number : (x y : Float) → T (double x) → T (double y) → isNan (add binary64 x y) ≡ false
+unfolding add sum
+add-number nan y p q = absurd p
+add-number (inf s) y p q = absurd p
+add-number (fin s m e) nan p q = absurd q
+add-number (fin s m e) (inf t) p q = absurd q
+add-number (fin s m e) (fin t n d) p q = pick (Bool·beq s t) (ltb a b)
+  where
+    a : ℕ
+    a = m * up e * down d
+
+    b : ℕ
+    b = n * up d * down e
+
+    c : ℕ
+    c = down e * down d
+
+    pick : (u v : Bool) → isNan (cond u (round binary64 s (a + b) c) (cond v (round binary64 t (b - a) c) (round binary64 (s && ltb b a) (a - b) c))) ≡ false
+    pick true v = round-number s (a + b) c
+    pick false true = round-number t (b - a) c
+    pick false false = round-number (s && ltb b a) (a - b) c

@@ -1,8 +1,8 @@
--- The middle of two doubles above zero, where their sum does not overflow: it lies between them, and it is the exact middle but for half a unit in the last place. Assumes nothing.
+-- The middle of two doubles whose sum does not overflow: it lies between them, whatever their signs; and of two above zero it is the exact middle but for half a unit in the last place. Assumes nothing.
 use mathlib.Core.Path.{_≡_, refl, sym, ap, _∙_, subst}
-use mathlib.Core.Logic.{inl, inr}
+use mathlib.Core.Logic.{_⊎_, inl, inr}
 use Prim.Native.Nat.{ℕ, zero, suc, _+_, _-_, _*_, _/_, _^_, _≤_, _<_}
-use native.Mathlib.Nat.{mul-sub, le-trans, le-of-eq, not-le-of-lt, mul-one, mul-assoc, mul-le-mul-right, pow-suc}
+use native.Mathlib.Nat.{mul-sub, le-trans, le-of-eq, not-le-of-lt, mul-one, mul-assoc, mul-le-mul-left, pow-suc}
 use native.Mathlib.Omega.{arith}
 use lib.Dec.{T, ltb, ltb→lt}
 use lib.Pow.{pow-pos}
@@ -12,14 +12,14 @@ use lib.Ieee.Order.{drop}
 use Rattle.exact.specs.Value.{unit, inUnits, plus, minus, double, AtMost}
 use lib.Ieee.Scale.{finite}
 use Rattle.exact.specs.Rounding.{grid, Rounds, apart}
-use Rattle.exact.specs.Middle.{half, Ends, Halfway, middle}
+use Rattle.exact.specs.Middle.{half, Ends, Between, Halfway, middle}
 use Rattle.exact.proofs.Grid.{grid-ulp, grid-exact, grid-mono, grid-same, grid-small, grid-zero, either, grid-err-whole}
-use Rattle.exact.proofs.Value.{unit-pos, Rep, units-rep, grid-rep, grid-rep-at, units-of-plus, units-apart, positive-minus, positive-double}
+use Rattle.exact.proofs.Value.{unit-pos, Rep, units-rep, plus-rep, minus-rep, one-sided, grid-rep, units-of-plus, units-apart, positive-minus, positive-double}
 use Rattle.exact.proofs.Order.{le→exact}
 use Rattle.exact.proofs.Operations.{add-rounds, mul-rounds}
 use Rattle.exact.proofs.Finite.{mul-finite}
 use Rattle.exact.specs.Operations.{_⊕_, _⊗_}
-use Rattle.exact.proofs.Rounding.{rounds-units}
+use Rattle.exact.proofs.Rounding.{rounds-le, rounds-ge, rounds-units}
 
 -- ---- on the grid
 -- twice a number of at most 53 digits has at most 53 digits
@@ -105,7 +105,44 @@ half-grid s d =
     shape : (H o P n u : ℕ) → H * 2 ≡ u → o ≡ 0 → apart (H * P + o * n) (H * n + o * P) * 2 ≡ apart P n * u
     shape H o P n u e f = rw (f, ← e) (omega (arith, mul-sub H P n, mul-sub H n P))
 
--- ---- the middle
+-- ---- the middle of two doubles in order, whatever their signs
+-- 2 (a - b) ≤ P - N says the same of P - N rounded, where a and b have at most 53 digits and one of them is 0
+doubled : (a b P N : ℕ) → Rep a → Rep b → (a ≡ 0) ⊎ (b ≡ 0) → a * 2 + N ≤ P + b * 2 → a * 2 + grid (N - P) 1 ≤ grid (P - N) 1 + b * 2
+doubled a b P N r t (inl z) h =
+    let x : grid (N - P) 1 ≤ b * 2 = le-trans (grid-mono (N - P) 1 (b * 2) 1 (pow-pos 0) (pow-pos 0) (omega arith)) (le-of-eq (grid-rep (b * 2) (twice b t))) in
+    omega arith
+doubled a b P N r t (inr z) h =
+    let y : grid (N - P) 1 ≡ 0 = ap (λ (k : ℕ). grid k 1) (omega arith) ∙ grid-zero 1 (pow-pos 0) in
+    let x : a * 2 ≤ grid (P - N) 1 = le-trans (le-of-eq (sym (grid-rep (a * 2) (twice a r)))) (grid-mono (a * 2) 1 (P - N) 1 (pow-pos 0) (pow-pos 0) (omega arith)) in
+    omega arith
+
+pub middle-between : (x1 x2 : Float) → T (double x1) → T (double x2) → AtMost x1 x2 → T (finite (x1 ⊕ x2)) → Between x1 x2 (middle x1 x2)
+unfolding middle
+middle-between x1 x2 p q l h =
+    let s = x1 ⊕ x2 in
+    let P = plus x1 + plus x2 in
+    let N = minus x1 + minus x2 in
+    let R = add-rounds x1 x2 p q h in
+    let M = half-rounds s (R .is-double) in
+    let low : plus x1 * 2 + minus s ≤ plus s + minus x1 * 2 = rw (R .plus-is, R .minus-is) (doubled (plus x1) (minus x1) P N (plus-rep x1 p) (minus-rep x1 p) (one-sided x1) (omega (arith, l))) in
+    let high : minus x2 * 2 + plus s ≤ minus s + plus x2 * 2 = rw (R .plus-is, R .minus-is) (doubled (minus x2) (plus x2) N P (minus-rep x2 q) (plus-rep x2 q) (other (one-sided x2)) (omega (arith, l))) in
+    record {
+      is-double = M .is-double;
+      above = rounds-ge (half ⊗ s) x1 (plus half * plus s + minus half * minus s) (plus half * minus s + minus half * plus s) unit M unit-pos p (scaled (plus half) (minus half) (plus x1) (minus x1) (plus s) (minus s) unit half-units half-minus low);
+      under = rounds-le (half ⊗ s) x2 (plus half * plus s + minus half * minus s) (plus half * minus s + minus half * plus s) unit M unit-pos q (scaled' (plus half) (minus half) (plus x2) (minus x2) (plus s) (minus s) unit half-units half-minus high);
+    }
+  where
+    other : {A B : Type 0} → A ⊎ B → B ⊎ A
+    other (inl a) = inr a
+    other (inr b) = inl b
+
+    scaled : (H o a b P n u : ℕ) → H * 2 ≡ u → o ≡ 0 → a * 2 + n ≤ P + b * 2 → a * u + (H * n + o * P) ≤ H * P + o * n + b * u
+    scaled H o a b P n u e f h = rw (f, ← e) (omega (arith, mul-le-mul-left H h))
+
+    scaled' : (H o a b P n u : ℕ) → H * 2 ≡ u → o ≡ 0 → b * 2 + P ≤ n + a * 2 → H * P + o * n + b * u ≤ a * u + (H * n + o * P)
+    scaled' H o a b P n u e f h = rw (f, ← e) (omega (arith, mul-le-mul-left H h))
+
+-- ---- where neither is negative, how near it is to the exact middle
 pub halfway : (x1 x2 : Float) → T (double x1) → T (double x2) → minus x1 ≡ 0 → minus x2 ≡ 0 → plus x1 ≤ plus x2 → T (finite (x1 ⊕ x2)) → Halfway x1 x2 (middle x1 x2)
 unfolding middle
 halfway x1 x2 p q z1 z2 l h =
@@ -120,23 +157,11 @@ halfway x1 x2 p q z1 z2 l h =
     let M : plus m ≡ grid (grid N 1) 2 = sym (units-of-plus m W) ∙ half-grid s d ∙ ap (λ (a : ℕ). grid a 2) (units-of-plus s Z ∙ S) in
     let w = half-near N (subst Rep (units-of-plus s Z ∙ S) (units-rep s d)) in
     record {
-      is-double = half-rounds s d .is-double;
+      between = middle-between x1 x2 p q (omega arith) h;
       sign = W;
-      above = le-trans (low (plus x1) N (subst Rep (units-of-plus x1 z1) (units-rep x1 p)) (omega arith)) (le-of-eq (sym M));
-      under = le-trans (le-of-eq M) (high (plus x2) N (subst Rep (units-of-plus x2 z2) (units-rep x2 q)) (omega arith));
       near-up = subst (λ (a : ℕ). 2 ^ 53 * (a * 2) ≤ 2 ^ 53 * N + (N + 2 ^ 53)) (sym M) (w .0);
       near-down = subst (λ (a : ℕ). 2 ^ 53 * N ≤ 2 ^ 53 * (a * 2) + (N + 2 ^ 53)) (sym M) (w .1);
     }
-  where
-    low : (a N : ℕ) → Rep a → a * 2 ≤ N → a ≤ grid (grid N 1) 2
-    low a N r h =
-        let x : a * 2 ≤ grid N 1 = le-trans (le-of-eq (sym (grid-rep (a * 2) (twice a r)))) (grid-mono (a * 2) 1 N 1 (pow-pos 0) (pow-pos 0) (omega arith)) in
-        le-trans (le-of-eq (sym (grid-rep-at a (a * 2) 2 (pow-pos 1) r refl))) (grid-mono (a * 2) 2 (grid N 1) 2 (pow-pos 1) (pow-pos 1) (mul-le-mul-right 2 x))
-
-    high : (a N : ℕ) → Rep a → N ≤ a * 2 → grid (grid N 1) 2 ≤ a
-    high a N r h =
-        let x : grid N 1 ≤ a * 2 = le-trans (grid-mono N 1 (a * 2) 1 (pow-pos 0) (pow-pos 0) (omega arith)) (le-of-eq (grid-rep (a * 2) (twice a r))) in
-        le-trans (grid-mono (grid N 1) 2 (a * 2) 2 (pow-pos 1) (pow-pos 1) (mul-le-mul-right 2 x)) (le-of-eq (grid-rep-at a (a * 2) 2 (pow-pos 1) r refl))
 
 -- from doubles above zero in order
 pub halfway-of : (x1 x2 : Float) → T (fits binary64 x1) → T (fits binary64 x2) → Ends x1 x2 → Halfway x1 x2 (middle x1 x2)

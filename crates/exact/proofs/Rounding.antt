@@ -67,7 +67,6 @@ rounds-le r y p n c R C h l = rounds-mono r y p n c (plus y) (minus y) 1 R (self
 pub rounds-ge : (r y : Float) (p n c : ℕ) → Rounds r p n c → 0 < c → T (double y) → plus y * c + n ≤ p + minus y * c → AtMost y r
 rounds-ge r y p n c R C h l = rounds-mono y r (plus y) (minus y) 1 p n c (self-rounds y h) R (pow-pos 0) C (omega arith)
 
--- so a result below y has an exact result below y, and one above y an exact result above y
 -- ---- the size of a result
 pub rounds-units : (r : Float) (p n c : ℕ) → Rounds r p n c → 0 < c → inUnits r ≡ grid (apart p n) c
 rounds-units r p n c R C = elim (either n p) [

@@ -161,6 +161,14 @@ module _ (x : Float) where
       go true = zero-rep
       go false = units-rep x d
 
+  pub minus-rep : T (double x) → Rep (minus x)
+  unfolding minus
+  minus-rep d = go (negative x)
+    where
+      go : (s : Bool) → Rep (when s (inUnits x))
+      go true = units-rep x d
+      go false = zero-rep
+
   -- with the sign +
   pub plus-of-sign : negative x ≡ false → plus x ≡ inUnits x
   unfolding plus

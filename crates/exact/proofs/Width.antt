@@ -11,7 +11,7 @@ use lib.Ieee.{Float}
 use lib.Ieee.Scale.{finite}
 use Rattle.exact.specs.Operations.{_⊖_, _⊗_}
 use Rattle.exact.specs.Value.{inUnits, plus, minus, double}
-use Rattle.exact.specs.Rounding.{grid, apart}
+use Rattle.exact.specs.Rounding.{grid, distance}
 use Rattle.exact.specs.Middle.{half}
 use Rattle.exact.proofs.Grid.{grid-mono, either}
 use Rattle.exact.proofs.Value.{Rep, units-rep, units-of-plus, grid-rep}
@@ -21,30 +21,19 @@ use Rattle.exact.proofs.Finite.{sub-finite}
 use Rattle.exact.proofs.Halfway.{half-grid, half-near}
 
 module _ (x y : Float) (p : T (double x)) (q : T (double y)) where
-  -- the exact distance
-  abbrev pub width : ℕ
-  width = apart (plus x + minus y) (minus x + plus y)
-
   module _ (f : T (finite (x ⊖ y))) where
-    pub width-rounds : inUnits (x ⊖ y) ≡ grid width 1
+    pub width-rounds : inUnits (x ⊖ y) ≡ grid (distance x y) 1
     width-rounds = rounds-units (x ⊖ y) (plus x + minus y) (minus x + plus y) 1 (sub-rounds x y p q f) (pow-pos 0)
 
-    pub narrow : (w : Float) → T (double w) → inUnits (x ⊖ y) < inUnits w → width < inUnits w
-    narrow w r h = lt-of-not-le (λ (k : inUnits w ≤ width).
-        not-le-of-lt h (le-trans (le-of-eq (sym (grid-rep (inUnits w) (units-rep w r)))) (le-trans (grid-mono (inUnits w) 1 width 1 (pow-pos 0) (pow-pos 0) (omega arith)) (le-of-eq (sym width-rounds)))))
+    pub narrow : (w : Float) → T (double w) → inUnits (x ⊖ y) < inUnits w → distance x y < inUnits w
+    narrow w r h = lt-of-not-le (λ (k : inUnits w ≤ distance x y).
+        not-le-of-lt h (le-trans (le-of-eq (sym (grid-rep (inUnits w) (units-rep w r)))) (le-trans (grid-mono (inUnits w) 1 (distance x y) 1 (pow-pos 0) (pow-pos 0) (omega arith)) (le-of-eq (sym width-rounds)))))
 
-    pub half-narrow : (t : ℕ) → 2 ≤ t → inUnits (half ⊗ (x ⊖ y)) ≤ t → width < 3 * t
+    pub half-narrow : (t : ℕ) → 2 ≤ t → inUnits (half ⊗ (x ⊖ y)) ≤ t → distance x y < 3 * t
     half-narrow t two h =
         let d = sub-rounds x y p q f .is-double in
-        let near = half-near width (subst Rep width-rounds (units-rep (x ⊖ y) d)) in
-        end width (grid (grid width 1) 2) (near .1) (le-trans (le-of-eq (sym (half-grid (x ⊖ y) d ∙ ap (λ (a : ℕ). grid a 2) width-rounds))) h)
+        let near = half-near (distance x y) (subst Rep width-rounds (units-rep (x ⊖ y) d)) in
+        end (distance x y) (grid (grid (distance x y) 1) 2) (near .1) (le-trans (le-of-eq (sym (half-grid (x ⊖ y) d ∙ ap (λ (a : ℕ). grid a 2) width-rounds))) h)
       where
         end : (W H : ℕ) → 2 ^ 53 * W ≤ 2 ^ 53 * (H * 2) + (W + 2 ^ 53) → H ≤ t → W < 3 * t
         end W H near h = omega arith
-
--- the distance of two doubles that are not negative does not overflow
-pub width-finite : (x y : Float) → T (double x) → T (double y) → minus x ≡ 0 → minus y ≡ 0 → T (finite (x ⊖ y))
-width-finite x y p q zx zy = elim (either (plus x) (plus y)) [
-  | inl l ↦ sub-finite x y y p q q (le-trans (omega arith) (le-of-eq (sym (units-of-plus y zy))))
-  | inr l ↦ sub-finite x y x p q p (le-trans (omega arith) (le-of-eq (sym (units-of-plus x zx))))
-]

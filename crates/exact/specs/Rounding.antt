@@ -19,3 +19,7 @@ pub record Rounds (r : Float) (p n c : ℕ) : Type 0 where
 -- the distance of two numbers
 abbrev pub apart : ℕ → ℕ → ℕ
 apart p n = (p - n) + (n - p)
+
+-- the exact distance of two doubles, of whatever signs, in units
+abbrev pub distance : Float → Float → ℕ
+distance x y = apart (plus x + minus y) (minus x + plus y)

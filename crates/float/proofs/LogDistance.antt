@@ -1,4 +1,4 @@
--- The distance: for every double x from 1.0e-8 to 101, `logarithm x` is within 2 ^ -48 of both ends between which the natural logarithm of x lies. Assumes nothing.
+-- The distance: for every double x from 1.0e-8 to 101, `logarithm x` is a double within 2 ^ -48 of both ends between which the natural logarithm of x lies. Assumes nothing.
 use mathlib.Core.Path.{_≡_, refl, sym, ap, _∙_, subst}
 use mathlib.Core.Bool.{true, false}
 use Prim.Native.Nat.{ℕ, _+_, _-_, _*_, _/_, _%_, _^_, _≤_, _<_}
@@ -7,7 +7,7 @@ use native.Mathlib.Omega.{arith}
 use lib.Dec.{T}
 use lib.IntN.{pos}
 use lib.Ieee.{Float, fin, binary64, fits, le, toBits, ofBits, ofInt, mul}
-use Rattle.exact.specs.Value.{unit, plus, minus}
+use Rattle.exact.specs.Value.{unit, plus, minus, double}
 use Rattle.float.specs.Log.{artanh, total, term, scaled, ratio, ln2, difference, ofParts, least, most, logarithm}
 use Rattle.float.specs.Distance.{over, lower, upper, base, floor-plus, floor-minus, ceiling-plus, ceiling-minus, NearLogarithm}
 use Rattle.float.proofs.LogRange.{inside, third, ln-in}
@@ -53,6 +53,7 @@ parts-value : (M k : ℕ) → 2 ^ 52 ≤ M → M < 2 ^ 53 → 995 ≤ k → k �
     → r ≡ difference (artanh (ratio (M - 2 ^ 52)) / 8 + (k + 1 - 1023) * ln2) ((1023 - (k + 1)) * ln2)
     → (2 ^ 48 * (plus r * base M + floor-minus M k * unit) ≤ 2 ^ 48 * (minus r * base M + floor-plus M k * unit) + unit * base M)
     × (2 ^ 48 * (minus r * base M + ceiling-plus M k * unit) ≤ 2 ^ 48 * (plus r * base M + ceiling-minus M k * unit) + unit * base M)
+    × T (double r)
 unfolding base floor-plus floor-minus ceiling-plus ceiling-minus
 parts-value M k ml mh kl kh r is =
     let t = M - 2 ^ 52 in
@@ -77,6 +78,7 @@ parts-value M k ml mh kl kh r is =
           (low-end e A B ln2 (over 1 3) (lower 1 3) (upper 1 3) (over t d) (lower t d) (upper t d) (E .0) (E .1) ln2-lower ln2-upper b27),
       join (minus r) (plus r) (B * ln2) (e + A * ln2) (2 * (B * lower 1 3 * over t d)) (2 * (A * upper 1 3 * over t d + upper t d * over 1 3)) (over 1 3 * over t d) step unit step-unit (R .dn)
           (high-end e A B ln2 (over 1 3) (lower 1 3) (upper 1 3) (over t d) (lower t d) (upper t d) (E .0) (E .1) ln2-lower ln2-upper a6),
+      R .is-double,
     )
   where
     pos : (t : ℕ) → 0 < 2 ^ 53 + t
@@ -102,7 +104,7 @@ distance x f a b =
     let e : logarithm x ≡ difference (artanh (ratio (P .M - 2 ^ 52)) / 8 + (P .k + 1 - 1023) * ln2) ((1023 - (P .k + 1)) * ln2) =
     ln-in x a b ∙ ap (λ (n : ℕ). ofParts n (toBits binary64 x % 2 ^ 52)) (P .field) ∙ ap (λ (n : ℕ). ofParts (P .k + 1) n) (P .digits) in
     let v = parts-value (P .M) (P .k) (P .least) (P .most) (i .low) (i .high) (logarithm x) e in
-    record { M = P .M; k = P .k; is = P .is; least = P .least; most = P .most; sign = i .sign; above = v .0; under = v .1 }
+    record { is-double = v .2; M = P .M; k = P .k; is = P .is; least = P .least; most = P .most; sign = i .sign; above = v .0; under = v .1 }
 
 -- ---- ln 1 is 0
 pub ln-one : logarithm (fin false 1 (pos 0)) ≡ fin false 0 (pos 0)

@@ -10,8 +10,8 @@ use lib.Pow.{pow-add, pow-pos, pow-mono, shl-lt}
 use lib.Ieee.{binary64, ofBits}
 use lib.Ieee.Bits.{ofBits-fits}
 use lib.Ieee.Exact.{HasValue}
-use Rattle.float.specs.Root.{Floor, squareRoot}
-use Rattle.float.proofs.RootSquares.{sq-back, near-of}
+use Rattle.float.specs.Root.{isqrt, squareRoot}
+use Rattle.float.proofs.RootSquares.{Floor, sq-back, isqrt-floor, near-of}
 use Rattle.exact.specs.Value.{unit, inUnits}
 use Rattle.exact.proofs.Grid.{either}
 use Rattle.exact.proofs.Value.{double-of, units-of}
@@ -73,8 +73,8 @@ pub record Bits (b r q : ℕ) : Type 0 where
   pub below : r < 2047 * 2 ^ 52
   pub root : ofBits binary64 r ≡ squareRoot (ofBits binary64 b)
 
-pub found : (b m j z q : ℕ) → Significand b m j → z ≡ leadingZeros 64 m → Floor (raised m z j * 2 ^ 44) q → Bits b (result z j q) q
-found b m j z q g ez fl =
+pub found : (b m j z q : ℕ) → Significand b m j → z ≡ leadingZeros 64 m → q ≡ isqrt 54 (raised m z j * 2 ^ 44) → Bits b (result z j q) q
+found b m j z q g ez is =
     let s = z - (z + j) % 2 in
     let w : Zeros m z = subst (λ (x : ℕ). Zeros m x) (sym ez) (zeros m (g .some) (g .few)) in
     let zl : 11 ≤ z = w .least in
@@ -84,7 +84,8 @@ found b m j z q g ez fl =
     let hi : m * 2 ^ s < 2 ^ 64 = w .hi s (omega arith) in
     let a = m * 2 ^ (s + 44) in
     let ea : m * 2 ^ s * 2 ^ 44 ≡ a = mul-assoc m (2 ^ s) (2 ^ 44) ∙ ap (λ (x : ℕ). m * x) (sym (pow-add 2 s 44)) in
-    let fa : Floor a q = subst (λ (x : ℕ). Floor x q) (ap (λ (x : ℕ). x * 2 ^ 44) (mod-eq-of-lt hi) ∙ ea) fl in
+    let ah : a < 2 ^ 108 = subst (λ (y : ℕ). y < 2 ^ 108) ea (omega arith) in
+    let fa : Floor a q = subst (Floor a) (sym (is ∙ ap (λ (x : ℕ). isqrt 54 (x * 2 ^ 44)) (mod-eq-of-lt hi) ∙ ap (isqrt 54) ea)) (isqrt-floor 54 a ah) in
     let k = (j + 1032 - s) / 2 in
     let h = k - 1 in
     let kh : suc h ≡ k = omega arith in
@@ -92,7 +93,6 @@ found b m j z q g ez fl =
     let u = units-of x false (m * 2 ^ j) (g .value) in
     let n : inUnits x ≡ m * 2 ^ j = u .0 in
     let al : 2 ^ 106 ≤ a = subst (λ (y : ℕ). 2 ^ 106 ≤ y) ea (omega arith) in
-    let ah : a < 2 ^ 108 = subst (λ (y : ℕ). y < 2 ^ 108) ea (omega arith) in
     let ev : a % 2 ≡ 0 = even-shift m (s + 44) (omega arith) in
     let pt : Square (inUnits x) a h = record { whole = ap (λ (y : ℕ). y * unit) n ∙ moved m j (s + 44) h (omega arith); low = al; high = ah; even = ev } in
     let nr = near-of a q al ah ev fa in

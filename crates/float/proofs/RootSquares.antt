@@ -9,7 +9,7 @@ use lib.Dec.{T, leb, leb→le, nleb→lt}
 use lib.Pow.{pow-add, pow-pos, pow-mono}
 use lib.Ieee.Digits.{back}
 use Rattle.exact.proofs.Grid.{either}
-use Rattle.float.specs.Root.{Floor, isqrt}
+use Rattle.float.specs.Root.{isqrt}
 
 -- ---- squares
 pub sq-one : (s : ℕ) → (s + 1) * (s + 1) ≡ s * s + 2 * s + 1
@@ -48,6 +48,10 @@ sq-lt {a} {b} h = lt-of-lt-of-le (more a) (sq-le {a = a + 1} {b = b} (next a b h
     more a = rw sq-one (omega arith)
 
 -- ---- the floor root
+-- r is the whole part of the root of n
+abbrev pub Floor : ℕ → ℕ → Type 0
+Floor n r = (r * r ≤ n) × (n < (r + 1) * (r + 1))
+
 quarter : (d n : ℕ) → n < 4 ^ suc d → n / 4 < 4 ^ d
 quarter d n h = go (4 ^ d) (subst (λ (x : ℕ). n < x) (pow-suc 4 d) h)
   where
@@ -68,6 +72,13 @@ isqrt-floor zero n h = (omega arith, omega arith)
 isqrt-floor (suc d) n h =
     let r = 2 * isqrt d (n / 4) in
     floor-step (isqrt d (n / 4)) n (isqrt-floor d (n / 4) (quarter d n h)) (leb ((r + 1) * (r + 1)) n) (leb→le ((r + 1) * (r + 1)) n) (nleb→lt ((r + 1) * (r + 1)) n)
+
+-- there is one floor root
+pub floor-only : (n r q : ℕ) → Floor n r → Floor n q → r ≡ q
+floor-only n r q f g =
+    let a = sq-back r (q + 1) (lt-of-le-of-lt (f .0) (g .1)) in
+    let b = sq-back q (r + 1) (lt-of-le-of-lt (g .0) (f .1)) in
+    omega arith
 
 -- ---- the format's grid about c * 2 ^ k, for a c of 53 digits: the other numbers of the format, q * 2 ^ j with a q below 2 ^ 53, keep away from it
 shifted : (q k j : ℕ) → k ≤ j → q * 2 ^ j ≡ q * 2 ^ (j - k) * 2 ^ k

@@ -12,8 +12,8 @@ use lib.Ieee.{Float, nan, inf, fin, binary64, size, odd, units, fits}
 use lib.Ieee.Digits.{size-lt, size-le, size-reaches}
 use lib.Ieee.Fits.{odd-fits}
 use lib.Ieee.Exact.{HasValue, units-val}
-use Rattle.float.specs.Root.{Floor, IsRoot, IsSquareRoot, isqrt, rootOf, squareRoot}
-use Rattle.float.proofs.RootSquares.{isqrt-floor, Near, near-of, up-next, above-mid, below-any}
+use Rattle.float.specs.Root.{IsRoot, IsSquareRoot, isqrt, rootOf, squareRoot}
+use Rattle.float.proofs.RootSquares.{Floor, isqrt-floor, Near, near-of, up-next, above-mid, below-any}
 use Rattle.exact.specs.Value.{unit, inUnits, negative, double}
 use Rattle.exact.proofs.Grid.{either}
 use Rattle.exact.proofs.Value.{double-of, Rep, units-rep, units-lt, units-pos, units-of, plus-rep, plus-of-sign, zero-units, same-value}

@@ -5,7 +5,8 @@
 use Prim.Native.Nat.{ℕ, zero, suc, _+_, _-_, _*_, _^_, _≤_, _<_}
 use mathlib.Core.Path.{_≡_}
 use lib.Ieee.{Float}
-use Rattle.exact.specs.Value.{unit, inUnits, plus, minus}
+use lib.Dec.{T}
+use Rattle.exact.specs.Value.{unit, inUnits, plus, minus, double}
 
 unfoldable pub denominator : ℕ → ℕ → ℕ
 denominator zero d = 1
@@ -51,8 +52,9 @@ ceiling-plus M k = 2 * ((k - 1022) * upper 1 3 * over (a-of M) (d-of M) + upper 
 unfoldable pub ceiling-minus : ℕ → ℕ → ℕ
 ceiling-minus M k = 2 * ((1022 - k) * lower 1 3 * over (a-of M) (d-of M))
 
--- r is at most floor + 2 ^ -48 and at least ceiling - 2 ^ -48, so within 2 ^ -48 of all that lies between, ln x too
+-- r is a double, at most floor + 2 ^ -48 and at least ceiling - 2 ^ -48, so within 2 ^ -48 of all that lies between, ln x too
 pub record NearLogarithm (x r : Float) : Type 0 where
+  pub is-double : T (double r)
   pub M : ℕ
   pub k : ℕ
   pub is : inUnits x ≡ M * 2 ^ k

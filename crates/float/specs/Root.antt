@@ -25,10 +25,6 @@ IsSquareRoot (fin s zero e) r = r ≡ fin s zero e
 IsSquareRoot (fin true (suc m) e) r = r ≡ nan
 IsSquareRoot (fin false (suc m) e) r = IsRoot (fin false (suc m) e) r
 
--- r is the whole part of the root of n
-abbrev pub Floor : ℕ → ℕ → Type 0
-Floor n r = (r * r ≤ n) × (n < (r + 1) * (r + 1))
-
 -- the whole part of the root of an n below 4 ^ d, digit by digit
 unfoldable pub isqrt : ℕ → ℕ → ℕ
 isqrt zero n = 0

@@ -2,11 +2,11 @@
 ghost use mathlib.Core.Path.{_≡_};
 ghost use Prim.Native.Nat.{_+_, _*_, _^_, _≤_, _<_};
 ghost use lib.Ieee.{binary64, ofBits};
-ghost use Rattle.float.specs.Root.{Floor, squareRoot, fourthRoot};
+ghost use Rattle.float.specs.Root.{isqrt, squareRoot, fourthRoot};
 
 // The whole part of the root of m * 2^44, digit by digit: each turn brings two bits of m down.
 fn floor_root(m: u64) -> u64
-    ensures { λ r. ⌜ Floor (m * 2 ^ 44) r ⌝ }
+    ensures { λ r. ⌜ r ≡ isqrt 54 (m * 2 ^ 44) ⌝ }
 {
     let mut reg = m;
     let mut rem = 0u64;

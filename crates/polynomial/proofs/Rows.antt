@@ -1,7 +1,7 @@
 -- Laws of a table and of what is folded over it: its next row, its end, its parts, and the sum over its tiles. Assumes nothing.
-use Prim.Native.Nat.{ℕ, zero, suc, _+_, _-_, _≤_, _<_}
+use Prim.Native.Nat.{ℕ, zero, suc, _+_, _-_, _≤_, _<_, min}
 use mathlib.Core.Path.{_≡_, _∙_, refl, ap, sym, subst}
-use mathlib.Core.Logic.{_⊎_, inl, inr, ⊎-elim}
+use mathlib.Core.Logic.{_⊎_, inl, inr}
 use mathlib.Core.Bool.{_&&_}
 use mathlib.Core.List.{List, [], _∷_, map, foldl-append}
 use native.Mathlib.Numerals.{add-one}
@@ -12,9 +12,10 @@ use lib.Ieee.{Float, nan}
 use lib.Ieee.Fits.{and-i, and-l, and-r}
 use lib.ListN.{length, getD, take, drop, drop-of-length-le}
 use lib.Seq.{drop-cons, take-add, take-all}
+use Rattle.exact.proofs.Grid.{either}
 use Rattle.polynomial.specs.Terms.{Row, row}
 use Rattle.polynomial.specs.Sums.{over}
-use Rattle.polynomial.specs.Tables.{rows, part, inRange, allInRange, cutsFrom, cuts, Least}
+use Rattle.polynomial.specs.Tables.{rows, part, inRange, allInRange, cutsFrom, cuts}
 
 -- ---- the columns of a table
 
@@ -43,16 +44,19 @@ module _ (is js : List ℤ) (ns : List Float) (k : ℕ) where
   no-row (inr (inl h)) = rw (drop-of-length-le js h) (rows-end-2 (drop k is) (drop k ns))
   no-row (inr (inr h)) = rw (drop-of-length-le ns h) (rows-end-3 (drop k is) (drop k js))
 
+shortest : {n : ℕ} (a b c k : ℕ) → n ≡ min a (min b c) → n ≤ k → (a ≤ k) ⊎ (b ≤ k) ⊎ (c ≤ k)
+shortest a b c k e h = elim (either a k) [ inl l ↦ inl l | inr l ↦ elim (either b k) [ inl m ↦ inr (inl m) | inr m ↦ inr (inr (omega arith)) ] ]
+
 -- ---- a loop over the columns
 
 module _ {S : Type 0} (f : S → Row → S) (s₀ : S) (is js : List ℤ) (ns : List Float) (n : ℕ) where
   -- What holds before the turn at k, with the state s: the rows from k on, taken by s, give what all rows give, taken by s₀. n is the shortest column's length.
   pub record Left (s : S) (k : ℕ) : Type 0 where
     pub within : k ≤ n
-    pub least : Least n (length is) (length js) (length ns)
+    pub least : n ≡ min (length is) (min (length js) (length ns))
     pub same : over f s (rows (drop k is) (drop k js) (drop k ns)) ≡ over f s₀ (rows is js ns)
 
-  pub starts : Least n (length is) (length js) (length ns) → Left s₀ 0
+  pub starts : n ≡ min (length is) (min (length js) (length ns)) → Left s₀ 0
   starts l = record { within = omega arith; least = l; same = refl }
 
   pub goes-on : {s t : S} {k : ℕ} → Left s k → k < n → t ≡ f s (row (getD is k (pos 0)) (getD js k (pos 0)) (getD ns k nan)) → Left t (k + 1)
@@ -67,7 +71,7 @@ module _ {S : Type 0} (f : S → Row → S) (s₀ : S) (is js : List ℤ) (ns : 
   pub ends : {s : S} {k : ℕ} → Left s k → n ≤ k → s ≡ over f s₀ (rows is js ns)
   unfolding over
   ends {s} {k} v h =
-      sym (ap (over f s) (no-row is js ns k (⊎-elim (λ l. inl (omega arith)) (⊎-elim (λ l. inr (inl (omega arith))) (λ l. inr (inr (omega arith)))) (v .least .one)))) ∙ v .same
+      sym (ap (over f s) (no-row is js ns k (shortest (length is) (length js) (length ns) k (v .least) h))) ∙ v .same
 
 pub rows-take : (k : ℕ) (is js : List ℤ) (ns : List Float) → rows (take k is) (take k js) (take k ns) ≡ take k (rows is js ns)
 unfolding rows

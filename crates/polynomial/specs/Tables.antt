@@ -48,13 +48,6 @@ pub record Table (is js : List ℤ) (ns : List Float) (steps : List ℕ) : Type 
   pub as-long-n : length ns ≡ length is
   pub tiled : T (cuts (length is) steps)
 
--- n is the least of three numbers
-pub record Least (n a b c : ℕ) : Type 0 where
-  pub first : n ≤ a
-  pub second : n ≤ b
-  pub third : n ≤ c
-  pub one : (n ≡ a) ⊎ (n ≡ b) ⊎ (n ≡ c)
-
 -- ---- a table as a document prints it: exponents and exact decimals
 pub data Printed : Type 0 where
   printed : ℤ → ℤ → Decimal → Printed

@@ -1,11 +1,12 @@
 // The sums over a table of terms n * vi^I * vj^J and their derivatives: algo/polynomial.rs and algo/polynomial_steps.rs of the Rust, from one loop.
 // A table is three parallel arrays; `steps` are the cuts between its tiles, from 0 to its length.
 ghost use mathlib.Core.Path.{_≡_};
+ghost use Prim.Native.Nat.{min};
 ghost use lib.Dec.{T};
 ghost use lib.ListN.{length};
 ghost use Rattle.polynomial.specs.Terms.{factored, term as termOf, alone, row, poly, poly-i, poly-ii, poly-j, poly-jj, poly-ij, total};
 ghost use Rattle.polynomial.specs.Sums.{step, over, shared, none as noneOf, first as firstOf};
-ghost use Rattle.polynomial.specs.Tables.{rows, inRange, allInRange, Table, Least};
+ghost use Rattle.polynomial.specs.Tables.{rows, inRange, allInRange, Table};
 use float::power::powi;
 
 // How often a power is derived.
@@ -130,7 +131,7 @@ fn with_row(kind: Kind, s: Sums, vi: f64, vj: f64, i: i32, j: i32, n: f64) -> Su
 
 // The least of three.
 fn least(a: usize, b: usize, c: usize) -> usize
-    ensures { λ r. ⌜ Least r a b c ⌝ }
+    ensures { λ r. ⌜ r ≡ min a (min b c) ⌝ }
 {
     if a <= b {
         if a <= c {

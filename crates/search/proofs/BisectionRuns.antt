@@ -1,56 +1,38 @@
 -- Demand 3 of bisection, for any residual function: the brackets of a run are nested with opposite residuals, and an outcome is what demand 3 owes. A turn is inverted once (`rule`); a middle
 -- that is not outside has a sum that does not overflow, so it lies between the ends, and the sign rule keeps the residuals opposite. Assumes nothing.
-use mathlib.Core.Path.{_≡_, refl, subst}
+use mathlib.Core.Path.{_≡_, refl, ap, _∙_, subst}
 use mathlib.Core.Logic.{_⊎_, inl, inr}
 use mathlib.Core.Bool.{Bool, true, false, cond, _||_, true≢false}
 use mathlib.Core.List.{map-id}
-use Prim.Native.Nat.{ℕ, _+_, _*_, _<_}
-use native.Mathlib.Nat.{le-refl, lt-irrefl, lt-of-lt-of-le, mul-pos}
-use native.Mathlib.Omega.{arith}
+use Prim.Native.Nat.{ℕ, _+_, _≤_, _<_}
 use lib.Dec.{T}
-use lib.Ieee.{Float, nan, inf, fin, binary64, up, down, add, mul, lt, le}
-use lib.Ieee.Fits.{down-pos}
-use lib.Ieee.Order.{round-mono}
+use lib.Ieee.{Float, nan, inf, fin, mul, lt, le, eq, isNan}
 use lib.Ieee.Scale.{finite}
 use Rattle.exact.specs.Operations.{_⊕_, _⊖_, _⊗_}
-use Rattle.exact.specs.Value.{inUnits, plus, minus, double}
+use Rattle.exact.specs.Value.{inUnits, double}
+use Rattle.exact.specs.Rounding.{distance}
 use Rattle.exact.specs.Middle.{half, middle}
 use Rattle.exact.proofs.Operations.{sub-rounds}
-use Rattle.exact.proofs.Halfway.{halfway}
-use Rattle.exact.proofs.Width.{narrow as narrow-exact, width-finite}
+use Rattle.exact.proofs.Finite.{add-number}
+use Rattle.exact.proofs.Halfway.{middle-between}
+use Rattle.exact.proofs.Width.{narrow as narrow-exact}
 use Rattle.float.specs.Sign.{nought, magnitude, sameSign}
-use Rattle.search.specs.Run.{Go, stop, go, statesFrom}
+use Rattle.search.specs.Run.{Go, stop, go, statesFrom, last, Every}
 use Rattle.search.specs.Bisection.{small, middleOf, outside, step, narrow, turn, turnGo, next, spent, bisection, bisectionBrackets}
-use Rattle.search.specs.Demand.{Opposite, Start, Within, Nested, RunOwes}
+use Rattle.search.specs.Demand.{Opposite, Start, Within, Nested, reported, RunOwes}
 use Rattle.search.specs.declared.bracket.Bracket.{Bracket}
 use Rattle.search.specs.declared.bracket.Outcome.{Outcome}
 use Rattle.search.specs.declared.bracket.Outcome.the-variants.{SmallResidual, Narrow, Refused}
 use Rattle.search.specs.declared.bisection.Turn.the-variants.{Done, Next}
-use Rattle.search.proofs.Runs.{Hands, keeps}
-use Rattle.search.proofs.Magnitude.{magnitude-lt}
+use Rattle.search.proofs.Runs.{Hands, keeps, reports-last, reports-each}
+use Rattle.search.proofs.Magnitude.{magnitude-lt, bounded-finite}
 use Rattle.search.proofs.Residuals.{Nonzero, of-true, not-small, sign-rule}
-use Rattle.search.proofs.Places.{Place, Held, no-minus, widened, own, within, signed, started, enclosed, nested}
+use Rattle.search.proofs.Places.{Place, Held, widened, own, within, signed, started, lies, enclosed, nested}
 
--- ---- the middle: a sum of two numbers above zero is no NaN, and where it overflows the middle is outside
-no-nan : (x y : Float) → 0 < plus x → 0 < plus y → T (le (x ⊕ y) (x ⊕ y))
-unfolding add plus
-no-nan nan y p q = absurd (lt-irrefl 0 p)
-no-nan (inf true) y p q = absurd (lt-irrefl 0 p)
-no-nan (inf false) y p q = absurd (lt-irrefl 0 p)
-no-nan (fin true m e) y p q = absurd (lt-irrefl 0 p)
-no-nan (fin false m e) nan p q = absurd (lt-irrefl 0 q)
-no-nan (fin false m e) (inf true) p q = absurd (lt-irrefl 0 q)
-no-nan (fin false m e) (inf false) p q = absurd (lt-irrefl 0 q)
-no-nan (fin false m e) (fin true n d) p q = absurd (lt-irrefl 0 q)
-no-nan (fin false m e) (fin false n d) p q =
-    let a = m * up e * down d + n * up d * down e in
-    let c = down e * down d in
-    let C : 0 < c = mul-pos (down-pos e) (down-pos d) in
-    round-mono binary64 a c a c C C (le-refl (a * c))
-
-overflow : (s x y : Float) → T (le s s) → T (double x) → T (double y) → (lt (half ⊗ s) x || lt y (half ⊗ s)) ≡ false → T (finite s)
-unfolding le lt mul
-overflow nan x y n p q h = n
+-- ---- the middle: where the sum of the ends overflows it is outside
+overflow : (s x y : Float) → isNan s ≡ false → T (double x) → T (double y) → (lt (half ⊗ s) x || lt y (half ⊗ s)) ≡ false → T (finite s)
+unfolding isNan lt mul
+overflow nan x y n p q h = absurd (true≢false n)
 overflow (inf s) nan y n p q h = absurd p
 overflow (inf s) (inf t) y n p q h = absurd p
 overflow (inf s) (fin t m e) nan n p q h = absurd q
@@ -66,23 +48,24 @@ module _ (f : Float → Float) (w b : Bracket) (h : Held f w b) where
   middled : outside b ≡ false → Place f b m (f m)
   unfolding outside middle
   middled i =
-      let l = h .lower in
-      let u = h .upper in
-      let H = halfway (b .x1) (b .x2) (l .is-double) (u .is-double) (no-minus (b .x1) (l .some)) (no-minus (b .x2) (u .some)) (h .order)
-      (overflow (b .x1 ⊕ b .x2) (b .x1) (b .x2) (no-nan (b .x1) (b .x2) (l .some) (u .some)) (l .is-double) (u .is-double) i) in
-      record { is-double = H .is-double; some = lt-of-lt-of-le (l .some) (H .above); residual = refl; from-lower = H .above; to-upper = H .under }
+      let p = h .lower .is-double in
+      let q = h .upper .is-double in
+      let M = middle-between (b .x1) (b .x2) p q (h .order) (overflow (b .x1 ⊕ b .x2) (b .x1) (b .x2) (add-number (b .x1) (b .x2) p q) p q i) in
+      record { is-double = M .is-double; residual = refl; from-lower = M .above; to-upper = M .under }
 
   -- ---- the width before the step
-  thin : (width : Bracket → Float) → T (double (width b)) → narrow width b ≡ true → plus (b .x2) < inUnits (width b) + plus (b .x1)
-  unfolding narrow
+  thin : (width : Bracket → Float) → T (double (width b)) → narrow width b ≡ true → distance (b .x1) (b .x2) < inUnits (width b)
+  unfolding narrow le
   thin width d t =
       let p = h .lower .is-double in
       let q = h .upper .is-double in
-      let z1 : minus (b .x1) ≡ 0 = no-minus (b .x1) (h .lower .some) in
-      let z2 : minus (b .x2) ≡ 0 = no-minus (b .x2) (h .upper .some) in
-      let F = width-finite (b .x1) (b .x2) p q z1 z2 in
-      let l = narrow-exact (b .x1) (b .x2) p q F (width b) d (magnitude-lt (b .x1 ⊖ b .x2) (width b) (sub-rounds (b .x1) (b .x2) p q F .is-double) d (of-true t)) in
-      omega (arith, l)
+      let w = b .x1 ⊖ b .x2 in
+      let F = bounded-finite w (width b) d (at-least (lt (magnitude w) (width b)) (eq (magnitude w) (width b)) (of-true t)) in
+      narrow-exact (b .x1) (b .x2) p q F (width b) d (magnitude-lt w (width b) (sub-rounds (b .x1) (b .x2) p q F .is-double) d (of-true t))
+    where
+      at-least : (a c : Bool) → T a → T (a || c)
+      at-least true c t = tt
+      at-least false c t = absurd t
 
 -- ---- what a step keeps: a bracket in w with opposite residuals
 abbrev Kept : (Float → Float) → Bracket → Bracket → Type 0
@@ -107,7 +90,7 @@ module _ (width : Bracket → Float) (f : Float → Float) where
   data Rule (b : Bracket) (n : ℕ) : Go Outcome Bracket → Type 0 where
     outside-now : Rule b n (stop (Refused 10 nought n b))
     spoilt-now : Rule b n (stop (Refused 6 nought (n + 1) b))
-    small-now : lt (magnitude (f (middleOf b))) small ≡ true → Rule b n (stop (SmallResidual (middleOf b) (n + 1) b))
+    small-now : outside b ≡ false → lt (magnitude (f (middleOf b))) small ≡ true → Rule b n (stop (SmallResidual (middleOf b) (n + 1) b))
     narrow-now : outside b ≡ false → narrow width b ≡ true → Rule b n (stop (Narrow (middleOf b) (n + 1) b))
     next-now : outside b ≡ false → Nonzero (f (middleOf b)) → Rule b n (go (step b (f (middleOf b))))
 
@@ -122,7 +105,7 @@ module _ (width : Bracket → Float) (f : Float → Float) where
           → Rule b n (cond o (stop (Refused 10 nought n b)) (turnGo (cond g (cond s (Done (SmallResidual m (n + 1) b)) (cond w (Done (Narrow m (n + 1) b)) (Next (step b (f m))))) (Done (Refused 6 nought (n + 1) b)))))
       pick true p g q s r w v = outside-now
       pick false p false q s r w v = spoilt-now
-      pick false p true q true r w v = small-now r
+      pick false p true q true r w v = small-now p r
       pick false p true q false r true v = narrow-now p v
       pick false p true q false r false v = next-now p (not-small (f m) q r)
 
@@ -133,13 +116,34 @@ module _ (width : Bracket → Float) (f : Float → Float) where
       by : {t : Go Outcome Bracket} → Rule b n t → Hands (λ o. Prim.Unit {0}) (λ c. Kept f c c × Within c b) t
       by outside-now = tt
       by spoilt-now = tt
-      by (small-now p) = tt
+      by (small-now p q) = tt
       by (narrow-now p q) = tt
       by (next-now i z) = let v = kept f b b k i z in ((own (step b (f (middleOf b))) (v .0), v .1), within (k .0) (v .0))
 
   pub bisection-nested : (s : Bracket) → Start f s → (limit : ℕ) → Nested f (bisectionBrackets width f s limit)
   unfolding bisectionBrackets
   bisection-nested s g limit = subst (Nested f) (map-id (statesFrom (next width f) limit s 0)) (nested f (λ b. b) (next width f) (λ b. Kept f b b) (λ b k. signed (k .0) (inl (k .1))) inward limit s 0 (started g, g .opposite))
+
+  -- ---- they are the ones that outcomes report: each outcome has the bracket of its turn
+  turn-reports : (b : Bracket) (n : ℕ) → Prim.Unit {0} → Hands (λ o. reported o ≡ b) (λ c. Prim.Unit {0}) (next width f b n)
+  turn-reports b n u = by (rule b n)
+    where
+      by : {t : Go Outcome Bracket} → Rule b n t → Hands (λ o. reported o ≡ b) (λ c. Prim.Unit {0}) t
+      by outside-now = refl
+      by spoilt-now = refl
+      by (small-now p q) = refl
+      by (narrow-now p q) = refl
+      by (next-now i z) = tt
+
+  pub bisection-last : (s : Bracket) (limit : ℕ) → reported (bisection width f s limit) ≡ last s (bisectionBrackets width f s limit)
+  unfolding bisection bisectionBrackets
+  bisection-last s limit =
+      reports-last (next width f) spent (λ b. b) reported (λ b. Prim.Unit {0}) turn-reports (λ b n. unfold spent in refl) limit s 0 tt ∙ ap (last s) (map-id (statesFrom (next width f) limit s 0))
+
+  pub bisection-each : (s : Bracket) (limit : ℕ) → Every (λ b. (k : ℕ) × (k ≤ limit) × (reported (bisection width f s k) ≡ b)) (bisectionBrackets width f s limit)
+  unfolding bisection bisectionBrackets
+  bisection-each s limit =
+      subst (Every _) (map-id (statesFrom (next width f) limit s 0)) (reports-each (next width f) spent (λ b. b) reported (λ b. Prim.Unit {0}) turn-reports (λ b n. unfold spent in refl) limit s 0 tt)
 
   -- ---- what an outcome owes
   module _ (s : Bracket) (d : (b : Bracket) → T (double (b .x1)) → T (double (b .x2)) → T (double (width b))) (g : Start f s) where
@@ -152,7 +156,7 @@ module _ (width : Bracket → Float) (f : Float → Float) where
         by : {t : Go Outcome Bracket} → Rule b n t → Hands Owed (Kept f s) t
         by outside-now = (inr (inr refl), within (started g) (k .0))
         by spoilt-now = (inl refl, within (started g) (k .0))
-        by (small-now p) = of-true p
+        by (small-now i p) = (of-true p, lies (started g) (k .0) (middled f s b (k .0) i))
         by (narrow-now i t) = enclosed (started g) (k .0) (k .1) (middled f s b (k .0) i) (thin f s b (k .0) width (d b (k .0 .lower .is-double) (k .0 .upper .is-double)) t)
         by (next-now i z) = kept f s b k i z
 

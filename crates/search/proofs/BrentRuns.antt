@@ -3,27 +3,27 @@
 use mathlib.Core.Path.{_≡_, refl, sym, _∙_, subst}
 use mathlib.Core.Logic.{_⊎_, inl, inr}
 use mathlib.Core.Bool.{Bool, true, false, cond, true≢false}
-use Prim.Native.Nat.{ℕ, _+_, _*_, _<_}
+use mathlib.Core.List.{map}
+use Prim.Native.Nat.{ℕ, _+_, _*_, _≤_, _<_}
+use native.Mathlib.Nat.{le-of-lt}
 use native.Mathlib.Omega.{arith}
 use lib.Dec.{T, not-T}
-use lib.Ieee.{Float, nan, inf, fin, binary64, lt, le, eq, fits}
+use lib.Ieee.{Float, nan, inf, fin, binary64, mul, lt, le, eq, fits}
 use lib.Ieee.Fits.{add-fits, mul-fits, cond-fits}
 use lib.Ieee.Bits.{is-true, is-false}
 use lib.Ieee.Scale.{finite}
 use Rattle.exact.specs.Operations.{_⊕_, _⊖_, _⊗_}
-use Rattle.exact.specs.Value.{inUnits, plus, minus, double}
+use Rattle.exact.specs.Value.{inUnits, double, Less}
+use Rattle.exact.specs.Rounding.{distance}
 use Rattle.exact.specs.Middle.{half, middle}
-use Rattle.exact.proofs.Grid.{either}
 use Rattle.exact.proofs.Value.{double-of}
-use Rattle.exact.proofs.Order.{lt→exact, exact→lt}
-use Rattle.exact.proofs.Operations.{sub-rounds}
-use Rattle.exact.proofs.Halfway.{half-finite}
-use Rattle.exact.proofs.Width.{half-narrow, width-finite}
+use Rattle.exact.proofs.Order.{lt→exact, exact→lt, le→exact, not-lt→le}
+use Rattle.exact.proofs.Width.{half-narrow}
 use Rattle.float.specs.Sign.{nought, magnitude, signTaken, sameSign}
-use Rattle.search.specs.Run.{Go, stop, go}
+use Rattle.search.specs.Run.{Go, statesFrom, last, Every}
 use Rattle.search.specs.Bracket.{ordered, strictlyBetween}
 use Rattle.search.specs.Brent.{bracketOf, bySign, start, sorted, tolerance, halfWidth, halved, lengths, nextPoint, withLengths, aimSorted, aim, step, turnGo, aimed, next, spent, zbrent, zbrentBrackets}
-use Rattle.search.specs.Demand.{Opposite, Zero, Start, Within, Signed, Nested, Enclosed, Owes}
+use Rattle.search.specs.Demand.{Opposite, Zero, Start, Within, Signed, Nested, reported, Lies, Enclosed, Owes}
 use Rattle.search.specs.declared.bracket.Bracket.{Bracket}
 use Rattle.search.specs.declared.method.Method.the-variants.{ByBrent}
 use Rattle.search.specs.declared.brent.Brent.{Brent}
@@ -33,11 +33,11 @@ use Rattle.search.specs.declared.bracket.Outcome.the-variants.{SmallResi
 use Rattle.search.specs.declared.brent.Aim.{Aim}
 use Rattle.search.specs.declared.brent.Aim.the-variants.{Stop, At}
 use Rattle.search.specs.declared.brent.BrentTurn.the-variants.{Ended, On}
-use Rattle.search.proofs.Runs.{Hands, keeps}
-use Rattle.search.proofs.Magnitude.{magnitude-le}
+use Rattle.search.proofs.Runs.{Hands, handed, keeps, reports-last, reports-each}
+use Rattle.search.proofs.Magnitude.{magnitude-le, bounded-finite}
 use Rattle.search.proofs.Residuals.{Nonzero, of-true, three-ways, zero-sign, not-less, opposite-sym, sign-rule, same}
 use Rattle.search.proofs.Tolerance.{tolerance-double, tolerance-two}
-use Rattle.search.proofs.Places.{Place, Held, no-minus, own, within, signed, started, enclosed, nested}
+use Rattle.search.proofs.Places.{Place, Held, own, within, signed, started, lies, enclosed, nested}
 
 -- ---- the bracket of two places
 by-order : (Q : Bracket → Type 0) (f : Float → Float) (w : Bracket) (b fb c fc : Float) → Place f w b fb → Place f w c fc
@@ -46,24 +46,32 @@ by-order : (Q : Bracket → Type 0) (f : Float → Float) (w : Bracket) (b fb c 
 unfolding ordered
 by-order Q f w b fb c fc p q up down = pick (lt b c) refl
   where
-    zb : minus b ≡ 0
-    zb = no-minus b (p .some)
-
-    zc : minus c ≡ 0
-    zc = no-minus c (q .some)
-
     pick : (t : Bool) → lt b c ≡ t → Q (cond t (record { x1 = b; x2 = c; r1 = fb; r2 = fc }) (record { x1 = c; x2 = b; r1 = fc; r2 = fb }))
-    pick true e = up (record { lower = p; upper = q; order = let l = lt→exact b c (p .is-double) (q .is-double) (of-true e) in omega (arith, l, zb, zc) })
-    pick false e = elim (either (plus c) (plus b)) [
-      | inl l ↦ down (record { lower = q; upper = p; order = l })
-      | inr l ↦ absurd (true≢false (sym (is-true (lt b c) (exact→lt b c (p .is-double) (q .is-double) (omega (arith, l, zb, zc)))) ∙ e))
-    ]
+    pick true e = up (record { lower = p; upper = q; order = le-of-lt (lt→exact b c (p .is-double) (q .is-double) (of-true e)) })
+    pick false e = down (record { lower = q; upper = p; order = le→exact c b (q .is-double) (p .is-double) (not-lt→le b c (p .is-double) (q .is-double) e) })
 
--- ---- a state whose last point and c are places of w
+-- two points that are not the same, whichever is the lower: their order says which is which
+abbrev Unlike : Float → Float → Type 0
+Unlike b c = Less b c ⊎ Less c b
+
+turned-round : (b c : Float) → Unlike b c → Unlike c b
+turned-round b c (inl h) = inr h
+turned-round b c (inr h) = inl h
+
+not-back : (b c : Float) → T (double b) → T (double c) → Less b c → lt c b ≡ false
+not-back b c p q h = is-false (lt c b) (not-T (lt c b) (λ k. let l = lt→exact c b q p k in omega (arith, h, l)))
+
+either-way : (b fb c fc : Float) → T (double b) → T (double c) → Unlike b c → ordered c fc b fb ≡ ordered b fb c fc
+unfolding ordered
+either-way b fb c fc p q (inl h) = rw (not-back b c p q h, is-true (lt b c) (exact→lt b c p q h))
+either-way b fb c fc p q (inr h) = rw (not-back c b q p h, is-true (lt c b) (exact→lt c b q p h))
+
+-- ---- a state whose last point and c are two places of w
 record Sound (f : Float → Float) (w : Bracket) (s : Brent) : Type 0 where
   last : Place f w (s .b) (s .fb)
   other : Place f w (s .c) (s .fc)
   signs : Opposite (s .fb) (s .fc) ⊎ Zero (s .fb)
+  apart : Unlike (s .b) (s .c)
 
 -- a point strictly between two doubles is finite
 between-finite : (b x c : Float) → T (double b) → T (double c) → T (lt b x) → T (lt x c) → T (finite x)
@@ -76,6 +84,13 @@ between-finite (fin s m e) (inf false) nan p q h k = absurd q
 between-finite (fin s m e) (inf false) (inf u) p q h k = absurd q
 between-finite (fin s m e) (inf false) (fin u j i) p q h k = absurd k
 between-finite (fin s m e) (fin t n d) c p q h k = tt
+
+-- and half of something is finite only if all of it is
+whole-finite : (d : Float) → T (finite (half ⊗ d)) → T (finite d)
+unfolding mul
+whole-finite nan h = h
+whole-finite (inf t) h = h
+whole-finite (fin t m e) h = tt
 
 -- ---- which rule an aim went by
 data Rule (s : Brent) (n : ℕ) : Aim → Type 0 where
@@ -122,8 +137,8 @@ module _ (f : Float → Float) (w : Bracket) where
   unfolding bracketOf
   self s h =
       by-order (λ v. Sound f v s) f w (s .b) (s .fb) (s .c) (s .fc) (h .last) (h .other)
-      (λ k. let o = own _ k in record { last = o .lower; other = o .upper; signs = h .signs })
-      (λ k. let o = own _ k in record { last = o .upper; other = o .lower; signs = h .signs })
+      (λ k. let o = own _ k in record { last = o .lower; other = o .upper; signs = h .signs; apart = h .apart })
+      (λ k. let o = own _ k in record { last = o .upper; other = o .lower; signs = h .signs; apart = h .apart })
 
   shows : (s : Brent) → Sound f w s → Signed f (bracketOf s)
   unfolding bracketOf
@@ -145,57 +160,57 @@ module _ (f : Float → Float) (w : Bracket) where
       turned k (inr z) = absurd (not-less (s .fc) (s .fb) z k)
 
       pick : (t : Bool) → lt (magnitude (s .fc)) (magnitude (s .fb)) ≡ t → Sound f w (cond t swapped s)
-      pick true k = record { last = h .other; other = h .last; signs = turned k (h .signs) }
+      pick true k = record { last = h .other; other = h .last; signs = turned k (h .signs); apart = turned-round (s .b) (s .c) (h .apart) }
       pick false k = h
 
+  sorted-bracket : (s : Brent) → Sound f w s → bracketOf (sorted s) ≡ bracketOf s
+  unfolding sorted bracketOf
+  sorted-bracket s h = pick (lt (magnitude (s .fc)) (magnitude (s .fb)))
+    where
+      pick : (t : Bool) → bracketOf (cond t (record { a = s .b; b = s .c; c = s .b; fa = s .fb; fb = s .fc; fc = s .fb; d = s .d; e = s .e }) s) ≡ bracketOf s
+      pick true = either-way (s .b) (s .fb) (s .c) (s .fc) (h .last .is-double) (h .other .is-double) (h .apart)
+      pick false = refl
+
   -- the sign rule, where c and the previous point a are opposite
-  by-sign : (u : Brent) → Place f w (u .a) (u .fa) → Place f w (u .b) (u .fb) → Place f w (u .c) (u .fc) → Opposite (u .fc) (u .fa) → Nonzero (u .fb) ⊎ Zero (u .fb) → Sound f w (bySign u)
+  by-sign : (u : Brent) → Place f w (u .a) (u .fa) → Place f w (u .b) (u .fb) → Place f w (u .c) (u .fc) → Opposite (u .fc) (u .fa) → Unlike (u .b) (u .a) → Unlike (u .b) (u .c) → Nonzero (u .fb) ⊎ Zero (u .fb) → Sound f w (bySign u)
   unfolding bySign
-  by-sign u p q r o (inr z) = rw (zero-sign (u .fb) (u .fc) z) (record { last = q; other = r; signs = inr z })
-  by-sign u p q r o (inl n) = by (sign-rule (u .fb) (u .fc) (u .fa) n o)
+  by-sign u p q r o j k (inr z) = rw (zero-sign (u .fb) (u .fc) z) (record { last = q; other = r; signs = inr z; apart = k })
+  by-sign u p q r o j k (inl n) = by (sign-rule (u .fb) (u .fc) (u .fa) n o)
     where
       by : ((sameSign (u .fb) (u .fc) ≡ true) × Opposite (u .fb) (u .fa)) ⊎ ((sameSign (u .fb) (u .fc) ≡ false) × Opposite (u .fc) (u .fb)) → Sound f w (bySign u)
-      by (inl v) = rw (v .0) (record { last = q; other = p; signs = inl (v .1) })
-      by (inr v) = rw (v .0) (record { last = q; other = r; signs = inl (opposite-sym (u .fc) (u .fb) (v .1)) })
+      by (inl v) = rw (v .0) (record { last = q; other = p; signs = inl (v .1); apart = j })
+      by (inr v) = rw (v .0) (record { last = q; other = r; signs = inl (opposite-sym (u .fc) (u .fb) (v .1)); apart = k })
 
   opposite-now : (s : Brent) → Sound f w s → eq (s .fb) nought ≡ false → Opposite (s .fb) (s .fc)
   opposite-now s h z = elim (h .signs) [ inl o ↦ o | inr e ↦ absurd (true≢false (sym e ∙ z)) ]
 
   -- a new point
-  placed : (b fb c fc x : Float) → Place f w b fb → Place f w c fc → T (fits binary64 x) → T (lt b x) → T (lt x c) → Place f w x (f x)
+  placed : (b fb c fc x : Float) → Place f w b fb → Place f w c fc → T (fits binary64 x) → T (lt b x) → T (lt x c) → Place f w x (f x) × Less b x × Less x c
   placed b fb c fc x p q t h k =
       let d = double-of x (between-finite b x c (p .is-double) (q .is-double) h k) t in
       let l = lt→exact b x (p .is-double) d h in
       let u = lt→exact x c d (q .is-double) k in
-      let zb : minus b ≡ 0 = no-minus b (p .some) in
-      let zc : minus c ≡ 0 = no-minus c (q .some) in
-      let s : 0 < plus x = omega (arith, l) in
-      let zx : minus x ≡ 0 = no-minus x s in
-      record { is-double = d; some = s; residual = refl; from-lower = omega (arith, l, p .from-lower); to-upper = omega (arith, u, q .to-upper) }
+      (record { is-double = d; residual = refl; from-lower = omega (arith, l, p .from-lower); to-upper = omega (arith, u, q .to-upper) }, l, u)
 
-  strict : (s : Brent) → Sound f w s → (x : Float) → T (fits binary64 x) → strictlyBetween x (s .b) (s .c) ≡ true → Place f w x (f x)
+  strict : (s : Brent) → Sound f w s → (x : Float) → T (fits binary64 x) → strictlyBetween x (s .b) (s .c) ≡ true → Place f w x (f x) × Unlike x (s .b) × Unlike x (s .c)
   unfolding strictlyBetween
   strict s h x t = pick (lt (s .b) x) refl (lt (s .c) x) refl
     where
-      pick : (u : Bool) → lt (s .b) x ≡ u → (v : Bool) → lt (s .c) x ≡ v → cond u (lt x (s .c)) (cond v (lt x (s .b)) false) ≡ true → Place f w x (f x)
-      pick true e v g k = placed (s .b) (s .fb) (s .c) (s .fc) x (h .last) (h .other) t (of-true e) (of-true k)
-      pick false e true g k = placed (s .c) (s .fc) (s .b) (s .fb) x (h .other) (h .last) t (of-true g) (of-true k)
+      pick : (u : Bool) → lt (s .b) x ≡ u → (v : Bool) → lt (s .c) x ≡ v → cond u (lt x (s .c)) (cond v (lt x (s .b)) false) ≡ true → Place f w x (f x) × Unlike x (s .b) × Unlike x (s .c)
+      pick true e v g k = let p = placed (s .b) (s .fb) (s .c) (s .fc) x (h .last) (h .other) t (of-true e) (of-true k) in (p .0, inr (p .1), inl (p .2))
+      pick false e true g k = let p = placed (s .c) (s .fc) (s .b) (s .fb) x (h .other) (h .last) t (of-true g) (of-true k) in (p .0, inl (p .2), inr (p .1))
       pick false e false g k = absurd (true≢false (sym k))
 
   -- half the width is at most the tolerance
-  thin : (s : Brent) → Sound f w s → le (magnitude (halfWidth s)) (tolerance (s .b)) ≡ true
-      → (plus (s .c) < 3 * inUnits (tolerance (s .b)) + plus (s .b)) × (plus (s .b) < 3 * inUnits (tolerance (s .b)) + plus (s .c))
+  thin : (s : Brent) → Sound f w s → le (magnitude (halfWidth s)) (tolerance (s .b)) ≡ true → distance (s .c) (s .b) < 3 * inUnits (tolerance (s .b))
   unfolding halfWidth
   thin s h k =
       let p = h .other .is-double in
       let q = h .last .is-double in
-      let zc : minus (s .c) ≡ 0 = no-minus (s .c) (h .other .some) in
-      let zb : minus (s .b) ≡ 0 = no-minus (s .b) (h .last .some) in
-      let F = width-finite (s .c) (s .b) p q zc zb in
       let d = s .c ⊖ s .b in
-      let H = double-of (half ⊗ d) (half-finite d (sub-rounds (s .c) (s .b) p q F .is-double)) (mul-fits binary64 half d) in
-      let l = half-narrow (s .c) (s .b) p q F (inUnits (tolerance (s .b))) (tolerance-two (s .b) q) (magnitude-le (half ⊗ d) (tolerance (s .b)) H (tolerance-double (s .b) q) (of-true k)) in
-      (omega (arith, l), omega (arith, l))
+      let H = bounded-finite (half ⊗ d) (tolerance (s .b)) (tolerance-double (s .b) q) (of-true k) in
+      half-narrow (s .c) (s .b) p q (whole-finite d H) (inUnits (tolerance (s .b))) (tolerance-two (s .b) q)
+      (magnitude-le (half ⊗ d) (tolerance (s .b)) (double-of (half ⊗ d) H (mul-fits binary64 half d)) (tolerance-double (s .b) q) (of-true k))
 
   -- ---- what each turn hands on, where w is a bracket of a run itself
   module _ (g : Held f w w) where
@@ -203,13 +218,24 @@ module _ (f : Float → Float) (w : Bracket) where
     unfolding bracketOf
     narrow-owes s h z k =
         by-order (λ v. Enclosed f w v (s .b) (3 * inUnits (tolerance (s .b)))) f w (s .b) (s .fb) (s .c) (s .fc) (h .last) (h .other)
-        (λ v. enclosed g v o (own _ v .lower) (thin s h k .0))
-        (λ v. enclosed g v (opposite-sym (s .fb) (s .fc) o) (own _ v .upper) (thin s h k .1))
+        (λ v. enclosed g v o (own _ v .lower) (omega (arith, near)))
+        (λ v. enclosed g v (opposite-sym (s .fb) (s .fc) o) (own _ v .upper) near)
       where
         o : Opposite (s .fb) (s .fc)
         o = opposite-now s h z
 
-    stepped : (s : Brent) (l : Lengths) (x : Float) (n : ℕ) → Sound f w s → eq (s .fb) nought ≡ false → Place f w x (f x) → Hands (Owes ByBrent f w) (Sound f w) (turnGo (step (withLengths s l) x (f x) n))
+        near : distance (s .c) (s .b) < 3 * inUnits (tolerance (s .b))
+        near = thin s h k
+
+    zero-lies : (s : Brent) → Sound f w s → Lies w (bracketOf s) (s .b)
+    unfolding bracketOf
+    zero-lies s h = by-order (λ v. Lies w v (s .b)) f w (s .b) (s .fb) (s .c) (s .fc) (h .last) (h .other) (λ v. lies g v (own _ v .lower)) (λ v. lies g v (own _ v .upper))
+
+    -- what an outcome owes, and that it reports the bracket of its turn
+    abbrev Owed : Brent → Outcome → Type 0
+    Owed s o = Owes ByBrent f w o × (reported o ≡ bracketOf s)
+
+    stepped : (s : Brent) (l : Lengths) (x : Float) (n : ℕ) → Sound f w s → eq (s .fb) nought ≡ false → Place f w x (f x) × Unlike x (s .b) × Unlike x (s .c) → Hands (Owed s) (Sound f w) (turnGo (step (withLengths s l) x (f x) n))
     unfolding step
     stepped s l x n h z p = pick (finite (f x)) refl
       where
@@ -219,19 +245,19 @@ module _ (f : Float → Float) (w : Bracket) where
         u : Brent
         u = record { a = s .b; b = x; c = s .c; fa = s .fb; fb = f x; fc = s .fc; d = l .d; e = l .e }
 
-        pick : (q : Bool) → finite (f x) ≡ q → Hands (Owes ByBrent f w) (Sound f w) (turnGo (cond q (On (bySign u)) (Ended (Refused 6 nought n (bracketOf t)))))
-        pick true q = by-sign u (h .last) p (h .other) (opposite-sym (s .fb) (s .fc) (opposite-now s h z)) (three-ways (f x) q)
-        pick false q = (inl refl, within g (held t (record { last = h .last; other = h .other; signs = h .signs })))
+        pick : (q : Bool) → finite (f x) ≡ q → Hands (Owed s) (Sound f w) (turnGo (cond q (On (bySign u)) (Ended (Refused 6 nought n (bracketOf t)))))
+        pick true q = by-sign u (h .last) (p .0) (h .other) (opposite-sym (s .fb) (s .fc) (opposite-now s h z)) (p .1) (p .2) (three-ways (f x) q)
+        pick false q = unfold bracketOf in ((inl refl, within g (held t (record { last = h .last; other = h .other; signs = h .signs; apart = h .apart }))), refl)
 
-    aimed-owes : (s : Brent) (n : ℕ) → Sound f w s → {t : Aim} → Rule s n t → Hands (Owes ByBrent f w) (Sound f w) (aimed f n t)
-    aimed-owes s n h (zero-now z) = subst Zero (h .last .residual) z
-    aimed-owes s n h (narrow-now z k) = narrow-owes s h z k
+    aimed-owes : (s : Brent) (n : ℕ) → Sound f w s → {t : Aim} → Rule s n t → Hands (Owed s) (Sound f w) (aimed f n t)
+    aimed-owes s n h (zero-now z) = ((subst Zero (h .last .residual) z, zero-lies s h), refl)
+    aimed-owes s n h (narrow-now z k) = (narrow-owes s h z k, refl)
     aimed-owes s n h (point-now z l x t k) = stepped s l x (n + 1) h z (strict s h x t k)
-    aimed-owes s n h none-now = (inr (inr refl), within g (held s h))
+    aimed-owes s n h none-now = ((inr (inr refl), within g (held s h)), refl)
 
-    turn-owes : (s : Brent) (n : ℕ) → Sound f w s → Hands (Owes ByBrent f w) (Sound f w) (next f s n)
+    turn-owes : (s : Brent) (n : ℕ) → Sound f w s → Hands (Owed s) (Sound f w) (next f s n)
     unfolding next aim
-    turn-owes s n h = aimed-owes (sorted s) n (sound-sorted s h) (rule (sorted s) n)
+    turn-owes s n h = handed (λ o k. (k .0, k .1 ∙ sorted-bracket s h)) (λ c k. k) (aimed f n (aimSorted (sorted s) n)) (aimed-owes (sorted s) n (sound-sorted s h) (rule (sorted s) n))
 
 -- ---- the start: b is the upper end and c the lower one
 module _ (f : Float → Float) (s : Bracket) (g : Start f s) where
@@ -241,30 +267,20 @@ module _ (f : Float → Float) (s : Bracket) (g : Start f s) where
   upper-nonzero : Nonzero (s .r2)
   upper-nonzero = elim opposite [ inl o ↦ inl (o .0) | inr o ↦ inr (o .0) ]
 
-  sound-start : Sound f s (start s)
-  unfolding start
-  sound-start = let h = started g in by-sign f s _ (h .lower) (h .upper) (h .upper) opposite (inl upper-nonzero)
-
   -- its bracket is s, and its last point is the upper end
   starts : start s ≡ record { a = s .x1; b = s .x2; c = s .x1; fa = s .r1; fb = s .r2; fc = s .r1; d = s .x2 ⊖ s .x1; e = s .x2 ⊖ s .x1 }
   unfolding start bySign
   starts = rw (same (s .r2) (s .r2) (elim upper-nonzero [ inl n ↦ inl (n, n) | inr n ↦ inr (n, n) ]))
+
+  sound-start : Sound f s (start s)
+  sound-start = let h = started g in rw starts (record { last = h .upper; other = h .lower; signs = inl opposite; apart = inr (lt→exact (s .x1) (s .x2) (g .lower) (g .upper) (g .order)) })
 
   pub zbrent-last : start s .b ≡ s .x2
   zbrent-last = rw starts
 
   pub zbrent-first : bracketOf (start s) ≡ s
   unfolding bracketOf ordered
-  zbrent-first = rw (starts, is-false (lt (s .x2) (s .x1)) (not-T (lt (s .x2) (s .x1)) back))
-    where
-      h : Held f s s
-      h = started g
-
-      back : T (lt (s .x2) (s .x1)) → ⊥
-      back k =
-          let l = lt→exact (s .x1) (s .x2) (h .lower .is-double) (h .upper .is-double) (g .order) in
-          let m = lt→exact (s .x2) (s .x1) (h .upper .is-double) (h .lower .is-double) k in
-          omega (arith, l, m)
+  zbrent-first = rw (starts, not-back (s .x1) (s .x2) (g .lower) (g .upper) (lt→exact (s .x1) (s .x2) (g .lower) (g .upper) (g .order)))
 
   -- ---- the brackets of a run
   pub zbrent-nested : (limit : ℕ) → Nested f (zbrentBrackets f s limit)
@@ -272,16 +288,23 @@ module _ (f : Float → Float) (s : Bracket) (g : Start f s) where
   zbrent-nested limit = nested f bracketOf (next f) (λ u. Sound f (bracketOf u) u) (λ u h. shows f (bracketOf u) u h) inward limit (start s) 0 (self f s (start s) sound-start)
     where
       inward : (u : Brent) (n : ℕ) → Sound f (bracketOf u) u → Hands (λ o. Prim.Unit {0}) (λ c. Sound f (bracketOf c) c × Within (bracketOf c) (bracketOf u)) (next f u n)
-      inward u n h = on (next f u n) (turn-owes f (bracketOf u) k u n h)
-        where
-          k : Held f (bracketOf u) (bracketOf u)
-          k = held f (bracketOf u) u h
+      inward u n h = handed (λ o k. tt) (λ c k. (self f (bracketOf u) c k, within (held f (bracketOf u) u h) (held f (bracketOf u) c k))) (next f u n) (turn-owes f (bracketOf u) (held f (bracketOf u) u h) u n h)
 
-          on : (t : Go Outcome Brent) → Hands (Owes ByBrent f (bracketOf u)) (Sound f (bracketOf u)) t → Hands (λ o. Prim.Unit {0}) (λ c. Sound f (bracketOf c) c × Within (bracketOf c) (bracketOf u)) t
-          on (stop o) i = tt
-          on (go c) i = (self f (bracketOf u) c i, within k (held f (bracketOf u) c i))
+  -- ---- they are the ones that outcomes report
+  turn-reports : (u : Brent) (n : ℕ) → Sound f s u → Hands (λ o. reported o ≡ bracketOf u) (Sound f s) (next f u n)
+  turn-reports u n h = handed (λ o k. k .1) (λ c k. k) (next f u n) (turn-owes f s (started g) u n h)
+
+  pub zbrent-reports : (limit : ℕ) → reported (zbrent f s limit) ≡ last s (zbrentBrackets f s limit)
+  unfolding zbrent zbrentBrackets
+  zbrent-reports limit = subst (λ (b : Bracket). reported (zbrent f s limit) ≡ last b (map bracketOf (statesFrom (next f) limit (start s) 0))) zbrent-first (reports-last (next f) spent bracketOf reported (Sound f s) turn-reports (λ u n. unfold spent in refl) limit (start s) 0 sound-start)
+
+  pub zbrent-each : (limit : ℕ) → Every (λ b. (k : ℕ) × (k ≤ limit) × (reported (zbrent f s k) ≡ b)) (zbrentBrackets f s limit)
+  unfolding zbrent zbrentBrackets
+  zbrent-each limit = reports-each (next f) spent bracketOf reported (Sound f s) turn-reports (λ u n. unfold spent in refl) limit (start s) 0 sound-start
 
   -- ---- what an outcome owes
   pub zbrent-owes : (limit : ℕ) → Owes ByBrent f s (zbrent f s limit)
   unfolding zbrent
-  zbrent-owes limit = keeps (next f) spent (Owes ByBrent f s) (Sound f s) (turn-owes f s (started g)) (λ u n h. unfold spent in (inr (inl refl), within (started g) (held f s u h))) limit (start s) 0 sound-start
+  zbrent-owes limit =
+      keeps (next f) spent (Owes ByBrent f s) (Sound f s) (λ u n h. handed (λ o k. k .0) (λ c k. k) (next f u n) (turn-owes f s (started g) u n h))
+      (λ u n h. unfold spent in (inr (inl refl), within (started g) (held f s u h))) limit (start s) 0 sound-start

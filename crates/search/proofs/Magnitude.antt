@@ -3,7 +3,8 @@ use mathlib.Core.Path.{_≡_, refl}
 use Prim.Native.Nat.{_+_, _-_, _≤_, _<_}
 use native.Mathlib.Omega.{arith}
 use lib.Dec.{T}
-use lib.Ieee.{Float, nan, inf, fin, lt, le, fits}
+use lib.Ieee.{Float, nan, inf, fin, lt, le, eq, fits}
+use lib.Ieee.Scale.{finite}
 use Rattle.exact.specs.Value.{inUnits, plus, minus, double}
 use Rattle.exact.proofs.Value.{units-apart}
 use Rattle.exact.proofs.Order.{lt→exact, le→exact}
@@ -43,3 +44,12 @@ module _ (x w : Float) (p : T (double x)) (q : T (double w)) where
       let z : minus (magnitude x) ≡ 0 = magnitude-minus x in
       let b : inUnits w ≡ (plus w - minus w) + (minus w - plus w) = units-apart w in
       omega (arith, l)
+
+-- a magnitude that is at most a double is finite
+pub bounded-finite : (x w : Float) → T (double w) → T (le (magnitude x) w) → T (finite x)
+unfolding le lt eq
+bounded-finite nan w q h = absurd h
+bounded-finite (inf s) nan q h = absurd q
+bounded-finite (inf s) (inf t) q h = absurd q
+bounded-finite (inf s) (fin t m e) q h = absurd h
+bounded-finite (fin s m e) w q h = tt

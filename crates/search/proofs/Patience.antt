@@ -6,16 +6,9 @@ use Rattle.search.specs.Bisection as bisecting
 use Rattle.search.specs.Bisection.{bisection}
 use Rattle.search.specs.Brent as brenting
 use Rattle.search.specs.Brent.{start, zbrent}
+use Rattle.search.specs.Demand.{Spent}
 use Rattle.search.specs.declared.bracket.Bracket.{Bracket}
-use Rattle.search.specs.declared.bracket.Outcome.{Outcome}
-use Rattle.search.specs.declared.bracket.Outcome.the-variants.{ExactEnd, SmallResidual, Narrow, Refused}
 use Rattle.search.proofs.Runs.{patience}
-
-abbrev pub Spent : Outcome → Type 0
-Spent (ExactEnd v b) = ⊥
-Spent (SmallResidual v n b) = ⊥
-Spent (Narrow v n b) = ⊥
-Spent (Refused number v n b) = number ≡ 8
 
 pub bisection-patient : (width : Bracket → Float) (f : Float → Float) (s : Bracket) (limit more : ℕ) → (Spent (bisection width f s limit) → ⊥) → bisection width f s (limit + more) ≡ bisection width f s limit
 unfolding bisection

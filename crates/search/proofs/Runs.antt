@@ -1,10 +1,10 @@
--- Any run: how it goes on, for a loop that counts up to its limit; that more patience changes nothing; what its turns keep; the states it goes through. By induction on the steps left.
--- Assumes nothing.
-use mathlib.Core.Path.{_≡_, refl, sym, _∙_, subst}
-use mathlib.Core.List.{List, [], _∷_}
+-- Any run: how it goes on, for a loop that counts up to its limit; that more patience changes nothing; what its turns keep; the states it goes through, and that outcomes report them. By induction
+-- on the steps left. Assumes nothing.
+use mathlib.Core.Path.{_≡_, refl, sym, ap, _∙_, subst}
+use mathlib.Core.List.{List, [], _∷_, map}
 use Prim.Native.Nat.{ℕ, zero, suc, _+_, _-_, _≤_, _<_}
 use native.Mathlib.Omega.{arith}
-use Rattle.search.specs.Run.{Go, stop, go, runFrom, statesFrom}
+use Rattle.search.specs.Run.{Go, stop, go, runFrom, statesFrom, last, Every}
 
 left : (limit n : ℕ) → n < limit → limit - n ≡ suc (limit - (n + 1))
 left limit n h = omega arith
@@ -18,10 +18,24 @@ all x = omega arith
 more : (k j : ℕ) → suc k + j ≡ suc (k + j)
 more k j = omega arith
 
+least : (k : ℕ) → 0 ≤ k
+least k = omega arith
+
+both : (j k : ℕ) → j ≤ k → suc j ≤ suc k
+both j k h = omega arith
+
 -- what a turn hands on: Q of an outcome, P of a state
 abbrev pub Hands : {O S : Type 0} → (O → Type 0) → (S → Type 0) → Go O S → Type 0
 Hands Q P (stop o) = Q o
 Hands Q P (go c) = P c
+
+pub handed : {O S : Type 0} {Q Q' : O → Type 0} {P P' : S → Type 0} → ((o : O) → Q o → Q' o) → ((c : S) → P c → P' c) → (t : Go O S) → Hands Q P t → Hands Q' P' t
+handed f g (stop o) h = f o h
+handed f g (go c) h = g c h
+
+pub every : {A : Type 0} {P Q : A → Type 0} → ((a : A) → P a → Q a) → (l : List A) → Every P l → Every Q l
+every f [] h = tt
+every f (a ∷ l) h = (f a (h .0), every f l (h .1))
 
 module _ {O S : Type 0} (next : S → ℕ → Go O S) (spent : S → ℕ → O) where
   pub from-stop : (k : ℕ) (s : S) (n : ℕ) (o : O) → next s n ≡ stop o → runFrom next spent (suc k) s n ≡ o
@@ -83,3 +97,34 @@ module _ {O S : Type 0} (next : S → ℕ → Go O S) where
   unfolding statesFrom
   states-first zero s n = ([], refl)
   states-first (suc k) s n = (_, refl)
+
+-- ---- what outcomes report: where each turn that stops reports what `view` shows of its state, as a spent run does, the last state is reported, and each is under some limit
+module _ {O S B : Type 0} (next : S → ℕ → Go O S) (spent : S → ℕ → O) (view : S → B) (report : O → B) (P : S → Type 0)
+    (turn : (s : S) (n : ℕ) → P s → Hands (λ o. report o ≡ view s) P (next s n)) (ends : (s : S) (n : ℕ) → report (spent s n) ≡ view s) where
+  pub reports-last : (k : ℕ) (s : S) (n : ℕ) → P s → report (runFrom next spent k s n) ≡ last (view s) (map view (statesFrom next k s n))
+  reports-last zero s n p = unfold runFrom statesFrom in ends s n
+  reports-last (suc k) s n p = by (λ c. reports-last k c (n + 1)) (next s n) refl (turn s n p)
+    where
+      by : ((c : S) → P c → report (runFrom next spent k c (n + 1)) ≡ last (view c) (map view (statesFrom next k c (n + 1)))) → (t : Go O S) → next s n ≡ t → Hands (λ o. report o ≡ view s) P t
+          → report (runFrom next spent (suc k) s n) ≡ last (view s) (map view (statesFrom next (suc k) s n))
+      by ih (stop o) e h = rw (from-stop next spent k s n o e, states-stop next k s n o e) h
+      by ih (go c) e h = let r = states-first next k c (n + 1) in rw (from-go next spent k s n c e, states-go next k s n c e, r .1) (subst (λ (l : List S). report (runFrom next spent k c (n + 1)) ≡ last (view c) (map view l)) (r .1) (ih c h))
+
+  abbrev Under : ℕ → S → ℕ → B → Type 0
+  Under k s n b = (j : ℕ) × (j ≤ k) × (report (runFrom next spent j s n) ≡ b)
+
+  at-once : (k : ℕ) (s : S) (n : ℕ) → Under k s n (view s)
+  at-once k s n = (0, least k, unfold runFrom in ends s n)
+
+  pub reports-each : (k : ℕ) (s : S) (n : ℕ) → P s → Every (Under k s n) (map view (statesFrom next k s n))
+  reports-each zero s n p = unfold statesFrom in (at-once 0 s n, tt)
+  reports-each (suc k) s n p = by (λ c. reports-each k c (n + 1)) (next s n) refl (turn s n p)
+    where
+      Views : List S → Type 0
+      Views l = Every (Under (suc k) s n) (map view l)
+
+      by : ((c : S) → P c → Every (Under k c (n + 1)) (map view (statesFrom next k c (n + 1)))) → (t : Go O S) → next s n ≡ t → Hands (λ o. report o ≡ view s) P t → Views (statesFrom next (suc k) s n)
+      by ih (stop o) e h = subst Views (sym (states-stop next k s n o e)) (at-once (suc k) s n, tt)
+      by ih (go c) e h =
+          subst Views (sym (states-go next k s n c e))
+          (at-once (suc k) s n, every (λ b w. (suc (w .0), both (w .0) k (w .1), ap report (from-go next spent (w .0) s n c e) ∙ w .2)) (map view (statesFrom next k c (n + 1))) (ih c h))

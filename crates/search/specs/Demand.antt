@@ -1,17 +1,19 @@
--- Demand 3 in document 01's words, for any residual function f: what the brackets of a run keep, and what an outcome owes. Distances are exact, in units of 2 ^ -1074. Definitions only.
-use Prim.Native.Nat.{ℕ, _*_, _<_}
+-- Demand 3 in document 01's words, for any residual function f and any two doubles as ends, of whatever signs: what the brackets of a run keep, that they are the ones which runs report, and
+-- what an outcome owes. Distances are exact, in units of 2 ^ -1074. Definitions only.
+use Prim.Native.Nat.{ℕ, _*_, _≤_, _<_}
 use mathlib.Core.Path.{_≡_}
 use mathlib.Core.Logic.{_⊎_}
 use mathlib.Core.Bool.{true}
 use mathlib.Core.List.{List, [], _∷_}
 use lib.Dec.{T}
-use lib.Ieee.{Float, binary64, fits, lt, le, eq}
-use lib.Ieee.Positive.{positive}
-use Rattle.exact.specs.Value.{inUnits}
-use Rattle.exact.specs.Rounding.{apart}
+use lib.Ieee.{Float, lt, le, eq}
+use Rattle.exact.specs.Value.{inUnits, double}
+use Rattle.exact.specs.Rounding.{distance}
 use Rattle.float.specs.Sign.{nought, magnitude}
 use Rattle.search.specs.Bisection.{small, widthOf}
 use Rattle.search.specs.Brent.{tolerance}
+use Rattle.search.specs.Run.{last, Every}
+use Rattle.search.specs.Search.{run, brackets}
 use Rattle.search.specs.declared.bracket.Bracket.{Bracket}
 use Rattle.search.specs.declared.method.Method.{Method}
 use Rattle.search.specs.declared.method.Method.the-variants.{ByBisection, ByBrent}
@@ -25,19 +27,10 @@ Opposite a b = (T (lt a nought) × T (lt nought b)) ⊎ (T (lt nought a) × T (l
 abbrev pub Zero : Float → Type 0
 Zero r = eq r nought ≡ true
 
--- ---- ends that demand 3 speaks of: doubles above zero
-pub record AboveZero (low high : Float) : Type 0 where
-  pub lower : T (positive low)
-  pub upper : T (positive high)
-  pub lower-fits : T (fits binary64 low)
-  pub upper-fits : T (fits binary64 high)
-
--- ---- a bracket that demand 3 speaks of: doubles above zero, lower below upper, the residuals those of f and strictly opposite
+-- ---- a bracket that demand 3 speaks of: two doubles, lower below upper, the residuals those of f and strictly opposite
 pub record Start (f : Float → Float) (b : Bracket) : Type 0 where
-  pub lower : T (positive (b .x1))
-  pub upper : T (positive (b .x2))
-  pub lower-fits : T (fits binary64 (b .x1))
-  pub upper-fits : T (fits binary64 (b .x2))
+  pub lower : T (double (b .x1))
+  pub upper : T (double (b .x2))
   pub order : T (lt (b .x1) (b .x2))
   pub lower-at : b .r1 ≡ f (b .x1)
   pub upper-at : b .r2 ≡ f (b .x2)
@@ -61,15 +54,38 @@ Nested f [] = Prim.Unit {0}
 Nested f (b ∷ []) = Signed f b
 Nested f (b ∷ (c ∷ rest)) = Signed f b × Within c b × Nested f (c ∷ rest)
 
+-- ---- the brackets of a run are the ones that outcomes report
+abbrev pub reported : Outcome → Bracket
+reported (ExactEnd v b) = b
+reported (SmallResidual v n b) = b
+reported (Narrow v n b) = b
+reported (Refused number v n b) = b
+
+-- under the limit the last of them is reported, and each of them is under some limit that is no larger
+pub record Told (m : Method) (f : Float → Float) (s : Bracket) (limit : ℕ) : Type 0 where
+  pub at-last : reported (run m f s limit) ≡ last s (brackets m f s limit)
+  pub each : Every (λ b. (k : ℕ) × (k ≤ limit) × (reported (run m f s k) ≡ b)) (brackets m f s limit)
+
+-- ---- an outcome that a larger limit may change: 8
+abbrev pub Spent : Outcome → Type 0
+Spent (ExactEnd v b) = ⊥
+Spent (SmallResidual v n b) = ⊥
+Spent (Narrow v n b) = ⊥
+Spent (Refused number v n b) = number ≡ 8
+
 -- ---- what an answer owes
--- two points of opposite residual, both in the starting bracket s, enclose v, each exactly nearer to it than `near` units
-pub record Enclosed (f : Float → Float) (s b : Bracket) (v : Float) (near : ℕ) : Type 0 where
+-- v lies in the bracket b, and b in the starting bracket s
+pub record Lies (s b : Bracket) (v : Float) : Type 0 where
   pub inside : Within b s
   pub above-lower : T (le (b .x1) v)
   pub below-upper : T (le v (b .x2))
+
+-- two points of opposite residual, both in the starting bracket s, enclose v, each exactly nearer to it than `near` units
+pub record Enclosed (f : Float → Float) (s b : Bracket) (v : Float) (near : ℕ) : Type 0 where
+  pub lies : Lies s b v
   pub signs : Opposite (f (b .x1)) (f (b .x2))
-  pub near-lower : apart (inUnits v) (inUnits (b .x1)) < near
-  pub near-upper : apart (inUnits v) (inUnits (b .x2)) < near
+  pub near-lower : distance v (b .x1) < near
+  pub near-upper : distance v (b .x2) < near
 
 -- a refusal of the steps: by the table, its bracket inside the start
 abbrev pub Stopped : ℕ → Bracket → Bracket → Type 0
@@ -78,7 +94,7 @@ Stopped number b s = ((number ≡ 6) ⊎ (number ≡ 8) ⊎ (number ≡ 10)) × 
 -- of a run that starts at s: `Small` of the residual where the reason is a small residual, `near` the distance where it is narrow, from the bracket and the answer
 abbrev pub RunOwes : (Float → Type 0) → (Bracket → Float → ℕ) → (Float → Float) → Bracket → Outcome → Type 0
 RunOwes Small near f s (ExactEnd v b) = ⊥
-RunOwes Small near f s (SmallResidual v n b) = Small (f v)
+RunOwes Small near f s (SmallResidual v n b) = Small (f v) × Lies s b v
 RunOwes Small near f s (Narrow v n b) = Enclosed f s b v (near b v)
 RunOwes Small near f s (Refused number v n b) = Stopped number b s
 

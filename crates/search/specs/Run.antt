@@ -23,3 +23,12 @@ onward (go c) rest = rest c
 unfoldable pub statesFrom : {O S : Type 0} → (S → ℕ → Go O S) → ℕ → S → ℕ → List S
 statesFrom next zero s n = s ∷ []
 statesFrom next (suc k) s n = s ∷ onward (next s n) (λ c. statesFrom next k c (n + 1))
+
+-- ---- of a list: the last one, where it begins with a; and what is true of every one
+abbrev pub last : {A : Type 0} → A → List A → A
+last a [] = a
+last a (b ∷ rest) = last b rest
+
+abbrev pub Every : {A : Type 0} → (A → Type 0) → List A → Type 0
+Every P [] = Prim.Unit {0}
+Every P (a ∷ rest) = P a × Every P rest

@@ -1,20 +1,25 @@
--- Document 01's table of refusals over the decision lists: each number is given exactly when its row holds and no earlier one does; a call has one outcome. Assumes nothing.
+-- Document 01's table of refusals over the decision lists: each number is given exactly when its row holds and no earlier one does. For the calls that search, the property, and the four lines. Assumes nothing.
 use Prim.Native.Nat.{ℕ}
-use mathlib.Core.Path.{_≡_, refl, sym, _∙_}
+use mathlib.Core.Path.{_≡_, refl}
 use mathlib.Core.Logic.{inl, inr}
-use mathlib.Core.Bool.{Bool, true, false, not}
+use mathlib.Core.Bool.{Bool, true, false, not, cond}
 use mathlib.Core.List.{List, [], _∷_}
 use lib.Dec.{eqb}
 use lib.Ieee.{Float}
 use lib.Ieee.Scale.{finite}
+use Rattle.common.specs.Boundaries.{B23-p, B23-T, inside, numberOf as boundaryNumber, found, checked}
+use Rattle.common.specs.declared.boundaries.Range.{Range}
+use Rattle.common.specs.declared.boundaries.Range.the-variants.{T4, P4, T23, P23}
+use Rattle.common.specs.declared.boundaries.Boundary.the-variants.{At, Refused as OutOfRange}
+use Rattle.r4.specs.Saturation.{saturationPressure, saturationTemperature}
 use Rattle.search.specs.declared.bracket.Outcome.{Outcome}
 use Rattle.search.specs.declared.bracket.Outcome.the-variants.{ExactEnd, SmallResidual, Narrow, Refused}
 use Rattle.search.specs.Decision.{Row, _⇒_, decided}
 use Rattle.pairs.specs.Pairs.{steps, start}
 use Rattle.pairs.specs.declared.question.Question.{Question}
-use Rattle.vessel.specs.Answer.{refused, answered, valueOf}
+use Rattle.vessel.specs.Answer.{refused, line, answered, valueOf}
 use Rattle.vessel.specs.Range.{rule, refusal}
-use Rattle.vessel.specs.Calls.{formula, property}
+use Rattle.vessel.specs.Calls.{formula, property, lineChecks, saturation-pressure, saturation-temperature, B23-pressure, B23-temperature}
 use Rattle.vessel.specs.Searches.{checks, outcome, mark, search as searchOf}
 use Rattle.vessel.specs.Table.{Given, Exactly, numberOf, numberIn}
 use Rattle.vessel.specs.declared.answer.Answer.the-variants.{Value}
@@ -60,6 +65,33 @@ pub property-number : (region : Region) (q : Property) (p T : Float) (n : ℕ)
 unfolding property
 property-number region q p T n = exactly numberOf n _ (Value (formula region q p T))
 
--- ---- two outcomes that satisfy a call's statement are the same
-pub one-outcome : {A : Type 0} (stated a b : A) → a ≡ stated → b ≡ stated → a ≡ b
-one-outcome stated a b h k = h ∙ sym k
+-- a line: what it answers is its list, decided
+line-decided : (range : Range) (x result : Float) → line (checked range x result) ≡ decided (lineChecks range x result) (Value result)
+unfolding line checked found
+line-decided range x result = by (finite x) (inside range x) (finite result)
+  where
+    by : (a b c : Bool) → line (cond a (cond b (cond c (At result) (OutOfRange 9)) (OutOfRange (boundaryNumber range))) (OutOfRange 1))
+        ≡ cond (not a) (refused 1) (cond (not b) (refused (boundaryNumber range)) (cond (not c) (refused 9) (Value result)))
+    by false b c = refl
+    by true false c = refl
+    by true true false = refl
+    by true true true = refl
+
+line-number : (range : Range) (x result : Float) (n : ℕ) → Exactly numberOf (numberOf (line (checked range x result))) n (lineChecks range x result) (Value result)
+line-number range x result n = rw (line-decided range x result) (exactly numberOf n (lineChecks range x result) (Value result))
+
+pub saturation-pressure-number : (T : Float) (n : ℕ) → Exactly numberOf (numberOf (saturation-pressure T)) n (lineChecks T4 T (saturationPressure T)) (Value (saturationPressure T))
+unfolding saturation-pressure
+saturation-pressure-number T n = line-number T4 T (saturationPressure T) n
+
+pub saturation-temperature-number : (p : Float) (n : ℕ) → Exactly numberOf (numberOf (saturation-temperature p)) n (lineChecks P4 p (saturationTemperature p)) (Value (saturationTemperature p))
+unfolding saturation-temperature
+saturation-temperature-number p n = line-number P4 p (saturationTemperature p) n
+
+pub B23-pressure-number : (T : Float) (n : ℕ) → Exactly numberOf (numberOf (B23-pressure T)) n (lineChecks T23 T (B23-p T)) (Value (B23-p T))
+unfolding B23-pressure
+B23-pressure-number T n = line-number T23 T (B23-p T) n
+
+pub B23-temperature-number : (p : Float) (n : ℕ) → Exactly numberOf (numberOf (B23-temperature p)) n (lineChecks P23 p (B23-T p)) (Value (B23-T p))
+unfolding B23-temperature
+B23-temperature-number p n = line-number P23 p (B23-T p) n

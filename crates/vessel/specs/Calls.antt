@@ -1,15 +1,16 @@
 -- The calls that do not search: a property by (p,T), the saturation line and B23.
 use mathlib.Core.Bool.{not}
-use mathlib.Core.List.{[], _∷_}
+use mathlib.Core.List.{List, [], _∷_}
 use lib.Dec.{eqb}
 use lib.Ieee.{Float}
 use lib.Ieee.Scale.{finite}
-use Rattle.common.specs.Boundaries.{B23-p, B23-T, checked}
+use Rattle.common.specs.Boundaries.{B23-p, B23-T, inside, numberOf, checked}
+use Rattle.common.specs.declared.boundaries.Range.{Range}
 use Rattle.common.specs.declared.boundaries.Range.the-variants.{T23, P23}
 use Rattle.r1.specs.Region1 as region1
 use Rattle.r2.specs.Region2 as region2
 use Rattle.r4.specs.Saturation.{saturationPressureAt, saturationTemperatureAt}
-use Rattle.search.specs.Decision.{_⇒_, decided}
+use Rattle.search.specs.Decision.{Row, _⇒_, decided}
 use Rattle.vessel.specs.Answer.{refused, line}
 use Rattle.vessel.specs.Range.{refusal}
 use Rattle.vessel.specs.declared.answer.Answer.{Answer}
@@ -44,6 +45,12 @@ property region q p T =
     (Value (formula region q p T))
 
 -- ---- the lines: 1, then 2 or 3, then 9
+abbrev pub lineChecks : Range → Float → Float → List (Row Answer)
+lineChecks range x result =
+    (not (finite x) ⇒ refused 1)
+    ∷ ((not (inside range x) ⇒ refused (numberOf range))
+    ∷ ((not (finite result) ⇒ refused 9) ∷ []))
+
 unfoldable pub saturation-pressure : Float → Answer
 saturation-pressure T = line (saturationPressureAt T)
 

@@ -1,20 +1,18 @@
--- Demand 3 at the level of the calls: what the columns of a search's answer owe, between ends that are doubles above zero. Distances are exact, in units of 2 ^ -1074.
-use Prim.Native.Nat.{ℕ}
+-- Demand 3 at the level of the calls, with no premise: what the columns of a search's answer owe, and what the brackets keep that they report. Distances are exact, in units of 2 ^ -1074.
+use Prim.Native.Nat.{ℕ, _≤_}
 use mathlib.Core.Path.{_≡_}
 use mathlib.Core.Logic.{_⊎_}
-use Rattle.search.specs.Search.{ends}
-use Rattle.search.specs.Demand as search
-use Rattle.search.specs.Demand.{Zero, Within, Enclosed, Small, near}
+use mathlib.Core.List.{List}
+use Rattle.search.specs.Run.{last, Every}
+use Rattle.search.specs.Search.{ends, brackets}
+use Rattle.search.specs.Demand.{Zero, Within, Nested, Lies, Enclosed, Small, near}
 use Rattle.search.specs.declared.bracket.Bracket.{Bracket}
 use Rattle.r4.specs.Ends.{place}
 use Rattle.pairs.specs.Residual.{rowOf, residual}
 use Rattle.pairs.specs.Pairs.{lowerEnd, upperEnd, start}
 use Rattle.pairs.specs.declared.question.Question.{Question}
-use Rattle.vessel.specs.Answer.{Reason, none, plain, exactEnd, smallResidual, narrow, Columns}
-
--- the premise: both ends are doubles above zero
-abbrev pub AboveZero : Question → Type 0
-AboveZero q = search.AboveZero (place (lowerEnd q)) (place (upperEnd q))
+use Rattle.vessel.specs.Answer.{Reason, none, plain, exactEnd, smallResidual, narrow, Columns, columns}
+use Rattle.vessel.specs.Searches.{search as searchOf}
 
 -- the refusals before the steps
 abbrev pub Early : ℕ → Type 0
@@ -33,8 +31,18 @@ abbrev pub OwesBy : Reason → Question → Columns → Type 0
 OwesBy none q c = Early (c .number) ⊎ (((c .number ≡ 6) ⊎ (c .number ≡ 8) ⊎ (c .number ≡ 10)) × (AtStart q c ⊎ Within (reported q c) (start q)))
 OwesBy plain q c = ⊥
 OwesBy exactEnd q c = ((c .value ≡ place (lowerEnd q)) ⊎ (c .value ≡ place (upperEnd q))) × Zero (residual q (c .value)) × AtStart q c
-OwesBy smallResidual q c = Small (rowOf q .method) (residual q (c .value))
+OwesBy smallResidual q c = Small (rowOf q .method) (residual q (c .value)) × Lies (start q) (reported q c) (c .value)
 OwesBy narrow q c = Enclosed (residual q) (start q) (reported q c) (c .value) (near (rowOf q .method) (reported q c) (c .value))
 
 abbrev pub Owes : Question → Columns → Type 0
 Owes q c = OwesBy (c .reason) q c
+
+-- ---- the brackets that a search goes through, the starting one first
+abbrev pub bracketsOf : Question → ℕ → List Bracket
+bracketsOf q limit = brackets (rowOf q .method) (residual q) (start q) limit
+
+-- each lies within the one before, with residuals opposite or one zero; the last is the one in the columns of the answer, and each is in those of the answer under some limit that is no larger
+pub record Keeps (q : Question) (limit : ℕ) : Type 0 where
+  pub nested : Nested (residual q) (bracketsOf q limit)
+  pub at-last : reported q (columns (searchOf q limit)) ≡ last (start q) (bracketsOf q limit)
+  pub each : Every (λ b. (k : ℕ) × (k ≤ limit) × (reported q (columns (searchOf q k)) ≡ b)) (bracketsOf q limit)

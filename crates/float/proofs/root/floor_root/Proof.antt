@@ -7,7 +7,8 @@ use native.Mathlib.Nat.{pow-succ', mul-left-comm}
 use native.Mathlib.Numerals.{add-one}
 use native.Mathlib.Omega.{arith}
 use lib.Pow.{pow-mono}
-use Rattle.float.proofs.RootSquares.{sq-one, sq-two, sq-odd}
+use Rattle.float.specs.Root.{isqrt}
+use Rattle.float.proofs.RootSquares.{sq-one, sq-two, sq-odd, floor-only, isqrt-floor}
 use Rattle.float.proofs.root.floor_root.Statement.{statement}
 use Rattle.float.proofs.root.floor_root.Tie as tie
 
@@ -107,7 +108,10 @@ whole m reg rem root i d l =
     rw sq-one (emptied (root * root) m reg rem root (subst (λ (x : ℕ). (root * root + rem) * 2 ^ 64 + reg ≡ m * 4 ^ x) e (d .0)) (d .3) (d .1))
 
 returns : tie.Need-returns Inv-loop μ-loop
-returns c = whole (c .before .before .args .m) (c .before .loop .reg) (c .before .loop .rem) (c .before .loop .root) (c .before .loop .i) (c .before .loop .inv) (c .loop-test .left)
+returns c =
+    let m = c .before .before .args .m in
+    let l = c .before .loop in
+    floor-only (m * 2 ^ 44) (l .root) (isqrt 54 (m * 2 ^ 44)) (whole m (l .reg) (l .rem) (l .root) (l .i) (l .inv) (c .loop-test .left)) (isqrt-floor 54 (m * 2 ^ 44) (omega arith))
 
 pub floor-root-spec : {M : Type 1} → statement M
 floor-root-spec = tie.close (tie.spec Inv-loop μ-loop loop-holds mul-rem add-rem mul-trial add-trial mul-root add-root add-i loop-less loop-again returns)
