@@ -10,6 +10,10 @@
 extern "C" {
 #endif
 
+/* The version of Climboat, and what it follows. */
+#define CLIMBOAT_VERSION "0.1.0"
+#define CLIMBOAT_FOLLOWS "seuif97 2.3.8 and IAPWS R7-97(2012)"
+
 /* The region, always named by the caller; any other number is refused by CLIMBOAT_NOTHING_NAMED. */
 enum climboat_region {
     CLIMBOAT_REGION_1 = 1, /* liquid water: 273.15 to 623.15 K, from saturation pressure to 100 MPa */
@@ -36,7 +40,7 @@ enum climboat_reason {
     CLIMBOAT_NARROW = 4          /* the bracket is within its tolerance */
 };
 
-/* Whether a found value lies inside its region by the (p,T) rule; outside is still an answer. */
+/* Whether a found value lies inside its region by the (p,T) rule; outside is still an answer, on which nothing is to be decided (climboat_is_inside). */
 enum climboat_mark {
     CLIMBOAT_UNMARKED = 0, /* a refusal, or a call that does not search */
     CLIMBOAT_INSIDE = 1,
@@ -178,10 +182,17 @@ static inline struct climboat_answer climboat_Ts2p(uint32_t region, double T, do
     return climboat_answer_of(&record);
 }
 
-/* Whether the answer is a value, and not a refusal. */
+/* Whether the answer is a value, and not a refusal. A value may lie outside its region: decide on climboat_is_inside. */
 static inline bool climboat_is_answered(struct climboat_answer answer)
 {
     return answer.number == CLIMBOAT_ANSWERED;
+}
+
+/* Whether the answer is a value, and not a refusal, and is not marked outside. This, not climboat_is_answered, is what a decision is to be made on.
+ * A call that does not search gives no mark: its point is inside, or it is refused. */
+static inline bool climboat_is_inside(struct climboat_answer answer)
+{
+    return climboat_is_answered(answer) && answer.mark != CLIMBOAT_OUTSIDE;
 }
 
 /* What a refusal's number means, in a sentence. */

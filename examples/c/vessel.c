@@ -24,14 +24,16 @@ static void tell_search(const char *what, struct climboat_answer answer, const c
     }
 }
 
-/* Pressure and specific volume are measured; the door may be opened below boiling at the pressure of the air. */
+/* Pressure and specific volume are measured; the door may be opened below boiling at the pressure of the air. It stays shut on a value outside the region. */
 static void door_check(double p, double v)
 {
-    struct climboat_answer inside = climboat_pv2T(CLIMBOAT_REGION_1, p, v, CLIMBOAT_STEP_LIMIT);
+    struct climboat_answer temperature = climboat_pv2T(CLIMBOAT_REGION_1, p, v, CLIMBOAT_STEP_LIMIT);
     struct climboat_answer boiling = climboat_saturation_temperature(0.101325);
-    tell_search("temperature in the vessel", inside, "K");
-    if (climboat_is_answered(inside) && climboat_is_answered(boiling)) {
-        printf("  %s\n", inside.value < boiling.value ? "below boiling" : "boiling: keep the door shut");
+    tell_search("temperature in the vessel", temperature, "K");
+    if (climboat_is_inside(temperature) && climboat_is_inside(boiling)) {
+        printf("  %s\n", temperature.value < boiling.value ? "below boiling" : "boiling: keep the door shut");
+    } else if (climboat_is_answered(temperature) && climboat_is_answered(boiling)) {
+        printf("  a value outside the region: keep the door shut\n");
     } else {
         printf("  no reading: keep the door shut\n");
     }
@@ -70,6 +72,8 @@ int main(void)
     tell("B23 at 50 MPa", climboat_B23_temperature(50.0), "K");
     door_check(0.2, 0.00103);
     door_check(1.0, 0.0009996);
+    /* water that boils at 0.09 MPa: the value alone, below boiling at the pressure of the air, would open the door */
+    door_check(0.09, 0.0010408989121683818);
     tell_search("pressure at 500 K and 7.2 kJ/(kg K) in region 2", climboat_Ts2p(CLIMBOAT_REGION_2, 500.0, 7.2, 40), "MPa");
     tell_search("pressure at 500 K and 2900 kJ/kg in region 2", climboat_Th2p(CLIMBOAT_REGION_2, 500.0, 2900.0, CLIMBOAT_STEP_LIMIT), "MPa");
     tell_search("pressure at 500 K and 0.1 m^3/kg in region 2, limit 5", climboat_Tv2p(CLIMBOAT_REGION_2, 500.0, 0.1, 5), "MPa");

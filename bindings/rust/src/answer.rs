@@ -45,7 +45,7 @@ pub struct Search {
     pub steps: u32,
     /// The bracket at the test that ended the search; for an exact end, the starting bracket.
     pub bracket: Bracket,
-    /// Whether the found point lies inside the named region. A point outside is still an answer of the formula.
+    /// Whether the found point lies inside the named region. A point outside is still an answer of the formula; decide on [`Reading::is_inside`].
     pub inside: bool,
 }
 
@@ -59,6 +59,26 @@ pub struct Reading {
     pub reason: Reason,
     /// What the search says; nothing for a call that does not search.
     pub search: Option<Search>,
+}
+
+impl Reading {
+    /// Whether the value is not marked outside its region. This, not that there is a value, is what a decision is to be made on.
+    ///
+    /// A call that does not search gives no mark: its point is inside, or it is refused.
+    ///
+    /// ```
+    /// use climboat::{pv2t, saturation_temperature, Region, STEP_LIMIT};
+    ///
+    /// let boiling = saturation_temperature(0.101325)?;
+    /// // water that boils at 0.09 MPa: below boiling at the pressure of the air, and outside the region
+    /// let temperature = pv2t(Region::One, 0.09, 0.0010408989121683818, STEP_LIMIT)?;
+    /// assert!(temperature.value < boiling.value);
+    /// assert!(boiling.is_inside() && !temperature.is_inside());
+    /// # Ok::<(), climboat::Refusal>(())
+    /// ```
+    pub fn is_inside(&self) -> bool {
+        self.search.is_none_or(|search| search.inside)
+    }
 }
 
 /// Why there is no answer: document 01's refusals, and one of the interface.

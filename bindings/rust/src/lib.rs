@@ -12,7 +12,8 @@
 //! let temperature = pv2t(Region::One, 3.0, volume.value, STEP_LIMIT)?;
 //! assert!((temperature.value - 300.0).abs() < 1.0e-4);
 //! assert_eq!(temperature.reason, Reason::SmallResidual);
-//! assert!(temperature.search.is_some_and(|search| search.inside));
+//! // a search may find a value outside its region: nothing is decided on that
+//! assert!(temperature.is_inside());
 //! # Ok::<(), climboat::Refusal>(())
 //! ```
 //!
@@ -35,6 +36,12 @@ mod choices;
 
 pub use answer::{Bracket, Cause, Reading, Reason, Refusal, Search};
 pub use choices::{Pair, Property, Region};
+
+/// The version of Climboat.
+pub const VERSION: &str = env!("CARGO_PKG_VERSION");
+
+/// What it follows: the crate that it ports, and the release whose equations these are.
+pub const FOLLOWS: &str = "seuif97 2.3.8 and IAPWS R7-97(2012)";
 
 /// The step limit that the vessels use.
 pub const STEP_LIMIT: u32 = 20_000;
@@ -83,7 +90,7 @@ pub fn b23_temperature(p: f64) -> Result<Reading, Refusal> {
 
 /// Searches a region for the state with this pair: the first of the pair is fixed, the second is the target.
 ///
-/// A found point may lie outside the region: [`Search::inside`] says so.
+/// A found point may lie outside the region: [`Reading::is_inside`] says so.
 ///
 /// ```
 /// use climboat::{search, Cause, Pair, Region};

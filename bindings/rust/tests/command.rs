@@ -141,7 +141,7 @@ fn a_refusal_shows_the_steps_and_the_bracket_that_it_carries() {
 }
 
 /// Command lines that are wrong, and what is said of them.
-const WRONG: [(&str, &str); 16] = [
+const WRONG: [(&str, &str); 17] = [
     (
         "3 pT v 3 300",
         "word 1, \"3\", is no region or line: it is one of 1, 2, sat, b23",
@@ -192,7 +192,11 @@ const WRONG: [(&str, &str); 16] = [
     ),
     (
         "--lines 1",
-        "--diagram stands alone, --lines alone or with --bits",
+        "--diagram and --version stand alone, --lines alone or with --bits",
+    ),
+    (
+        "--version --bits",
+        "--diagram and --version stand alone, --lines alone or with --bits",
     ),
 ];
 
@@ -258,7 +262,14 @@ fn help_and_nothing() {
     )));
     let help = run("1 pT --help");
     assert_eq!((help.status, help.err.as_str()), (0, ""));
-    for word in ["--lines", "--bits", "--limit", "--diagram", "Exit status"] {
+    for word in [
+        "--lines",
+        "--bits",
+        "--limit",
+        "--diagram",
+        "--version",
+        "Exit status",
+    ] {
         assert!(help.out.contains(word), "{word}");
     }
 }

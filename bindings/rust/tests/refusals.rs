@@ -25,7 +25,14 @@ const DOUBLES: [f64; 22] = [
     863.15,
     1073.15,
 ];
-const LIMITS: [u32; 6] = [0, 1, STEP_LIMIT, LARGEST_STEP_LIMIT, LARGEST_STEP_LIMIT + 1, u32::MAX];
+const LIMITS: [u32; 6] = [
+    0,
+    1,
+    STEP_LIMIT,
+    LARGEST_STEP_LIMIT,
+    LARGEST_STEP_LIMIT + 1,
+    u32::MAX,
+];
 
 /// What a refusal carries is what document 01's table gives its number.
 fn assert_refusal(refusal: Refusal, limit: u32) {

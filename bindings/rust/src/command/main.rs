@@ -6,6 +6,7 @@ mod lines;
 mod request;
 
 use answer::Answer;
+use climboat::{FOLLOWS, VERSION};
 use request::{request, Notation};
 use std::io::{self, BufWriter, ErrorKind, Write};
 use std::process::ExitCode;
@@ -53,16 +54,17 @@ fn run(words: &[&str], output: &mut impl Write) -> io::Result<u8> {
     match words {
         [] => short(output),
         _ if words.contains(&"--help") => output.write_all(HELP.as_bytes()).map(|()| 0),
+        ["--version"] => writeln!(output, "climboat {VERSION}\nfollows {FOLLOWS}").map(|()| 0),
         ["--diagram"] => output.write_all(diagram::svg().as_bytes()).map(|()| 0),
         ["--lines"] => lines::answer(io::stdin().lock(), output, Notation::Decimal),
         ["--lines", "--bits"] | ["--bits", "--lines"] => {
             lines::answer(io::stdin().lock(), output, Notation::Bits)
         }
-        _ if ["--lines", "--diagram"]
+        _ if ["--lines", "--diagram", "--version"]
             .iter()
             .any(|word| words.contains(word)) =>
         {
-            complain("--diagram stands alone, --lines alone or with --bits (--help tells more)");
+            complain("--diagram and --version stand alone, --lines alone or with --bits (--help tells more)");
             Ok(WRONG)
         }
         _ => one(words, output),
