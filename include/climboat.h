@@ -1,5 +1,9 @@
 /* Climboat for C11 and C++: what temperature, what pressure, what volume, for water and steam (IAPWS-IF97 regions 1 and 2), or a numbered refusal.
- * Link libclimboat.a (tools/staticlib climboat). Units: MPa, K, m^3/kg, kJ/kg, kJ/(kg K), m/s. Any two doubles may be given, NaN and infinities included: no call traps, allocates or keeps state. */
+ * Link libclimboat.a (tools/staticlib climboat). Units: MPa, K, m^3/kg, kJ/kg, kJ/(kg K), m/s. Any two doubles may be given, NaN and infinities included: no call traps, allocates or keeps state.
+ * The floating-point environment: this holds, and an answer is the proved one, in IEEE 754's default environment: every exception masked, rounding to nearest, subnormals kept.
+ * No call changes a control bit; sticky flags may be raised. A program that is linked with -ffast-math starts with flush-to-zero on, and breaks that: as measured (bindings/c/run),
+ * a volume that is itself subnormal is then refused by 4 instead of by another number, and nothing else differs. In another rounding mode most answers differ, and some become refusals.
+ * In both, as measured, no call traps. An exception that the caller has unmasked raises the caller's own signal in a call, as in any arithmetic. */
 #ifndef CLIMBOAT_H
 #define CLIMBOAT_H
 

@@ -3,6 +3,9 @@
 //! Every call is one call of Climboat's proved archive. It takes any doubles and any step limit, and answers a [`Reading`] or a [`Refusal`]; it never panics.
 //! Units: MPa, K, m^3/kg, kJ/kg, kJ/(kg K), m/s. The caller always names the region.
 //!
+//! This holds in IEEE 754's default floating-point environment, which Rust takes for granted: exceptions masked, rounding to nearest, subnormals kept.
+//! C code in the same program can change it (linking with `-ffast-math` turns flush-to-zero on): README.md, "The floating-point environment", says what was measured then.
+//!
 //! ```
 //! use climboat::{property, pv2t, Property, Reason, Region, STEP_LIMIT};
 //!
