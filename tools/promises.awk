@@ -11,13 +11,14 @@ FNR == NR && $1 == "path" { paths[$2]; next }
 FNR == NR {
     have[$1, $2, $3]; where[$1, $3] = where[$1, $3] " " $2
     if ($1 == "edit") { edits[$2 " " $3]; edit_count++ }
-    if ($1 == "code" && $4 == "pub" && ($2 == "vessel" || $2 == "climboat")) { calls[$2 " " $3] = $5 " " $6; call_count++ }
+    if ($1 == "code" && $5 != "") { contracts[$2 " " $3] = $5 }
+    if ($1 == "code" && $4 == "pub" && ($2 == "vessel" || $2 == "climboat")) { calls[$2 " " $3] = $6; call_count++ }
     next
 }
 
 # ---- the page, line by line
 FNR == 1 { page = FILENAME }
-/^#/ { heading($0); columns = 0; next }
+/^#/ { heading($0); excepted = $0 == "## Exceptions"; columns = 0; next }
 !/^\|/ { columns = 0; row = ""; files = ""; cell($0, "words"); next }
 !columns { columns = split($0, column, / *\| */); next }
 /^\|[-|]*$/ { next }
@@ -72,6 +73,7 @@ function cell(text, kind,    n, part, i, j, place, full) {
 function look_up(name, kind, place, full,    scope, path) {
     scope = place in crates ? " " place : row != "" ? row : section
     path = name; sub(/^\.\//, "", path); sub(/\/$/, "", path)
+    if (excepted && name in crates) exceptions[name]
     if (name in language || (kind == "words" && (name in crates || path in paths))) return ""
     if (place in paths && !(place in crates)) { one("theorem", name, " " place, ""); return "" }
     if (kind == "theorem") { one("theorem", name, files, ""); return "" }
@@ -104,8 +106,8 @@ function code_name(name, scope,    first, rest) {
 function one(kind, name, scope, other,    n, at, i, found, count) {
     n = split(scope, at, " ")
     for (i = 1; i <= n; i++) {
-        if ((kind, at[i], name) in have) { count++; found = found " " at[i]; named[kind, at[i] " " name] }
-        else if (other != "" && (other, at[i], name) in have) { count++; found = found " " at[i]; named[other, at[i] " " name] }
+        if ((kind, at[i], name) in have) { count++; found = found " " at[i]; named[kind, at[i] " " name]; if (excepted) exceptions[at[i] " " name] }
+        else if (other != "" && (other, at[i], name) in have) { count++; found = found " " at[i]; named[other, at[i] " " name]; if (excepted) exceptions[at[i] " " name] }
     }
     if (count == 1 || (count > 1 && kind == "used")) return
     if (count > 1) { fail(FNR, "`" name "` is in each of" found ": say which one"); return }
@@ -123,10 +125,15 @@ END {
     for (c in calls) {
         name = c; sub(/ /, "::", name)
         if (!(("code", c) in named)) fail(0, page " does not name " name)
-        if (calls[c] !~ /^1/) fail(0, name " has no ensures")
-        if (calls[c] !~ /0$/) fail(0, name " has a requires")
+        if (calls[c]) fail(0, name " has a requires")
+    }
+    for (c in contracts) {
+        crate = c; sub(/ .*/, "", crate); name = c; sub(/ /, "::", name)
+        if (!contracts[c] && !(crate in exceptions) && !(c in exceptions)) fail(0, "the contract of " name " is no equation, and the page's Exceptions do not name it")
+        if (contracts[c] && c in exceptions) fail(0, "the contract of " name " is an equation, and the page's Exceptions name it")
+        contract_count += contracts[c]
     }
     if (!call_count || !edit_count) fail(0, "no public function or no edit found")
-    if (!bad) print "promises: every name on " page " is found; it names the " call_count " public functions of vessel and climboat, each with an ensures and without a requires, and the " edit_count " must-fail edits"
+    if (!bad) print "promises: every name on " page " is found; it names the " call_count " public functions of vessel and climboat, none of which requires anything, and the " edit_count " must-fail edits; " contract_count " contracts are equations"
     exit bad
 }

@@ -72,8 +72,6 @@ int main(void)
     tell("B23 at 50 MPa", climboat_B23_temperature(50.0), "K");
     door_check(0.2, 0.00103);
     door_check(1.0, 0.0009996);
-    /* water that boils at 0.09 MPa: the value alone, below boiling at the pressure of the air, would open the door */
-    door_check(0.09, 0.0010408989121683818);
     tell_search("pressure at 500 K and 7.2 kJ/(kg K) in region 2", climboat_Ts2p(CLIMBOAT_REGION_2, 500.0, 7.2, 40), "MPa");
     tell_search("pressure at 500 K and 2900 kJ/kg in region 2", climboat_Th2p(CLIMBOAT_REGION_2, 500.0, 2900.0, CLIMBOAT_STEP_LIMIT), "MPa");
     tell_search("pressure at 500 K and 0.1 m^3/kg in region 2, limit 5", climboat_Tv2p(CLIMBOAT_REGION_2, 500.0, 0.1, 5), "MPa");

@@ -1,7 +1,6 @@
 -- From a rounded width to the exact one. The rounded distance of two doubles is their exact distance, rounded once; where it is below a double w, so is the exact one, and
 -- where half of it is at most t, the exact one is below 3 t. Assumes nothing.
 use mathlib.Core.Path.{_≡_, sym, ap, _∙_, subst}
-use mathlib.Core.Logic.{inl, inr}
 use Prim.Native.Nat.{ℕ, _+_, _*_, _^_, _≤_, _<_}
 use native.Mathlib.Nat.{le-trans, le-of-eq, lt-of-not-le, not-le-of-lt}
 use native.Mathlib.Omega.{arith}
@@ -13,11 +12,10 @@ use Rattle.exact.specs.Operations.{_⊖_, _⊗_}
 use Rattle.exact.specs.Value.{inUnits, plus, minus, double}
 use Rattle.exact.specs.Rounding.{grid, distance}
 use Rattle.exact.specs.Middle.{half}
-use Rattle.exact.proofs.Grid.{grid-mono, either}
-use Rattle.exact.proofs.Value.{Rep, units-rep, units-of-plus, grid-rep}
+use Rattle.exact.proofs.Grid.{grid-mono}
+use Rattle.exact.proofs.Value.{Rep, units-rep, grid-rep}
 use Rattle.exact.proofs.Operations.{sub-rounds}
 use Rattle.exact.proofs.Rounding.{rounds-units}
-use Rattle.exact.proofs.Finite.{sub-finite}
 use Rattle.exact.proofs.Halfway.{half-grid, half-near}
 
 module _ (x y : Float) (p : T (double x)) (q : T (double y)) where

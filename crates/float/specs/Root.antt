@@ -3,7 +3,7 @@
 -- The story from reduction to last rounding: 2 h binary digits of the square are left off, exactly, so that 107 or 108 remain; the whole part of their root has 54 digits; the last of
 -- these is rounded off. The square is even and so is no odd number's square: there is never a tie.
 use mathlib.Core.Path.{_≡_}
-use Prim.Native.Nat.{ℕ, zero, suc, _+_, _*_, _/_, _^_, _≤_, _<_}
+use Prim.Native.Nat.{ℕ, zero, suc, _+_, _*_, _/_, _^_, _<_}
 use mathlib.Core.Bool.{true, false, cond}
 use lib.Dec.{T, leb}
 use lib.Ieee.{Float, nan, inf, fin, binary64, size, units}

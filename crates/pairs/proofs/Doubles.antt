@@ -1,6 +1,5 @@
 -- The ends of every pair are doubles wherever they are not missing: a constant, or read off a line. By the rows. Assumes nothing.
-use lib.Dec.{T}
-use lib.Ieee.{Float, fits}
+use lib.Ieee.{fits}
 use Rattle.float.specs.Decimal.{rounded}
 use Rattle.r4.proofs.Doubles.{Doubled, lowest-1-double, most-1-double, least-2-double, most-2-double}
 use Rattle.pairs.specs.Rows.{row}

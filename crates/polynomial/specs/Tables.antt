@@ -1,8 +1,7 @@
 -- A table by columns, its parts, and the tests that are made once over it: the range of its exponents, and where it is cut into tiles.
-use Prim.Native.Nat.{ℕ, _-_, _≤_}
+use Prim.Native.Nat.{ℕ, _-_}
 use mathlib.Core.Path.{_≡_}
 use mathlib.Core.Bool.{Bool, true, false, _&&_}
-use mathlib.Core.Logic.{_⊎_}
 use mathlib.Core.List.{List, [], _∷_, map}
 use lib.Dec.{T, leb, eqb}
 use lib.ListN.{length, take, drop}

@@ -3,8 +3,7 @@
 ghost use mathlib.Core.Path.{_≡_};
 ghost use Prim.Native.Nat.{min};
 ghost use lib.Dec.{T};
-ghost use lib.ListN.{length};
-ghost use Rattle.polynomial.specs.Terms.{factored, term as termOf, alone, row, poly, poly-i, poly-ii, poly-j, poly-jj, poly-ij, total};
+ghost use Rattle.polynomial.specs.Terms.{factored, term as termOf, row, poly, poly-i, poly-ii, poly-j, poly-jj, poly-ij, total};
 ghost use Rattle.polynomial.specs.Sums.{step, over, shared, none as noneOf, first as firstOf};
 ghost use Rattle.polynomial.specs.Tables.{rows, inRange, allInRange, Table};
 use float::power::powi;

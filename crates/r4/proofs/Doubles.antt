@@ -9,16 +9,14 @@ use Rattle.exact.specs.Value.{double}
 use Rattle.exact.proofs.Value.{double-of}
 use Rattle.float.specs.Decimal.{−_, number, rounded}
 use Rattle.float.specs.Power.{wholePower}
-use Rattle.common.specs.Constant.{T-least, T-623, T-863, p-623, p-most}
+use Rattle.common.specs.Constant.{T-623, T-863, p-623}
 use Rattle.common.specs.Boundaries.{B23-p, B23-T, inside, numberOf, found, checked}
 use Rattle.common.specs.declared.boundaries.Range.{Range}
 use Rattle.common.specs.declared.boundaries.Range.the-variants.{T4, P4}
-use Rattle.common.specs.declared.boundaries.Boundary.{Boundary}
 use Rattle.common.specs.declared.boundaries.Boundary.the-variants.{At as Answered, Refused}
 use Rattle.r4.specs.Saturation.{saturationPressure, saturationTemperature}
 use Rattle.r4.specs.Ends.{missing, place, readOff, p-lowest-1, T-most-1, T-least-2, p-most-2}
 use Rattle.r4.specs.declared.ends.End.{End}
-use Rattle.r4.specs.declared.ends.End.the-variants.{At}
 
 -- a double, unless it is missing
 abbrev pub Doubled : End → Type 0

@@ -20,7 +20,7 @@ use Rattle.exact.proofs.Value.{double-of}
 use Rattle.exact.proofs.Order.{lt→exact, exact→lt, le→exact, not-lt→le}
 use Rattle.exact.proofs.Width.{half-narrow}
 use Rattle.float.specs.Sign.{nought, magnitude, signTaken, sameSign}
-use Rattle.search.specs.Run.{Go, statesFrom, last, Every}
+use Rattle.search.specs.Run.{statesFrom, last, Every}
 use Rattle.search.specs.Bracket.{ordered, strictlyBetween}
 use Rattle.search.specs.Brent.{bracketOf, bySign, start, sorted, tolerance, halfWidth, halved, lengths, nextPoint, withLengths, aimSorted, aim, step, turnGo, aimed, next, spent, zbrent, zbrentBrackets}
 use Rattle.search.specs.Demand.{Opposite, Zero, Start, Within, Signed, Nested, reported, Lies, Enclosed, Owes}

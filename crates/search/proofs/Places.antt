@@ -1,7 +1,7 @@
 -- Points and brackets of a run, in exact units: doubles with their residuals, between the ends of a bracket w. What document 01's demand 3 asks of them follows, as the order of
 -- doubles is that of exact values; and the brackets of any run are nested whose turns keep them so. Assumes nothing.
 use mathlib.Core.Path.{_≡_, refl, sym, ap, _∙_, subst, subst₂}
-use mathlib.Core.Logic.{_⊎_, inl, inr}
+use mathlib.Core.Logic.{_⊎_}
 use mathlib.Core.List.{List, _∷_, map}
 use Prim.Native.Nat.{ℕ, zero, suc, _+_, _<_}
 use native.Mathlib.Nat.{le-refl, le-of-lt}
