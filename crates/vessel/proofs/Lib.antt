@@ -1,3 +1,4 @@
 pub mod Numbers
 pub mod Demand
 pub mod Readings
+pub mod OneOutcome
