@@ -226,8 +226,9 @@ const STAGES: [&str; 3] = [
 #[track_caller]
 fn untimed(line: &str) -> &str {
     let (line, time) = line.trim_end().rsplit_once(", ").unwrap();
+    let (minutes, seconds) = time.split_once(':').unwrap();
     assert!(
-        time.len() == 4 && time.starts_with("0:0") && time.ends_with(|c: char| c.is_ascii_digit()),
+        minutes.parse::<u32>().is_ok() && seconds.len() == 2 && seconds.parse::<u32>().is_ok(),
         "{line:?} {time:?}"
     );
     line
@@ -269,6 +270,7 @@ fn on_a_terminal_one_line_is_written_over() {
         .env("PATH", clone.0.join("bin"))
         .env("SHELL", clone.0.join("bin/bash"))
         .env("TERM", "xterm")
+        .env_remove("COLUMNS")
         .stdin(Stdio::null())
         .output()
         .unwrap();

@@ -1,5 +1,5 @@
--- Demand 3 of bisection, for any residual function: the brackets of a run are nested with opposite residuals, and an outcome is what demand 3 owes. A turn is inverted once (`rule`); a middle
--- that is not outside has a sum that does not overflow, so it lies between the ends, and the sign rule keeps the residuals opposite. Assumes nothing.
+-- Demand 3 of bisection, for any residual function: the brackets of a run are nested with opposite residuals, an outcome reports the last of them, and is what demand 3 owes. A turn is inverted once
+-- (`rule`); a middle that is not outside has a sum that does not overflow, so it lies between the ends, and the sign rule keeps the residuals opposite. Assumes nothing.
 use mathlib.Core.Path.{_≡_, refl, ap, _∙_, subst}
 use mathlib.Core.Logic.{_⊎_, inl, inr}
 use mathlib.Core.Bool.{Bool, true, false, cond, _||_, true≢false}
@@ -135,9 +135,9 @@ module _ (width : Bracket → Float) (f : Float → Float) where
       by (narrow-now p q) = refl
       by (next-now i z) = tt
 
-  pub bisection-last : (s : Bracket) (limit : ℕ) → reported (bisection width f s limit) ≡ last s (bisectionBrackets width f s limit)
+  pub bisection-reports : (s : Bracket) (limit : ℕ) → reported (bisection width f s limit) ≡ last s (bisectionBrackets width f s limit)
   unfolding bisection bisectionBrackets
-  bisection-last s limit =
+  bisection-reports s limit =
       reports-last (next width f) spent (λ b. b) reported (λ b. Prim.Unit {0}) turn-reports (λ b n. unfold spent in refl) limit s 0 tt ∙ ap (last s) (map-id (statesFrom (next width f) limit s 0))
 
   pub bisection-each : (s : Bracket) (limit : ℕ) → Every (λ b. (k : ℕ) × (k ≤ limit) × (reported (bisection width f s k) ≡ b)) (bisectionBrackets width f s limit)

@@ -1,5 +1,5 @@
--- Demand 3 of Brent's search, for any residual function: its brackets are nested, their residuals opposite or the last one's zero, and an outcome is what demand 3 owes. Where the search
--- aims is inverted once (`rule`); each new point lies strictly between b and c, and the sign rule keeps the residuals opposite. Assumes nothing.
+-- Demand 3 of Brent's search, for any residual function: its brackets are nested, their residuals opposite or the last one's zero, an outcome reports the last of them, and is what demand 3
+-- owes. Where the search aims is inverted once (`rule`); each new point lies strictly between b and c, so that these are two points, and the sign rule keeps the residuals opposite. Assumes nothing.
 use mathlib.Core.Path.{_≡_, refl, sym, _∙_, subst}
 use mathlib.Core.Logic.{_⊎_, inl, inr}
 use mathlib.Core.Bool.{Bool, true, false, cond, true≢false}

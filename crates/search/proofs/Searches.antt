@@ -26,7 +26,7 @@ use Rattle.search.specs.declared.bisection.Width.the-variants.{Millionth
 use Rattle.search.specs.declared.method.Method.{Method}
 use Rattle.search.specs.declared.method.Method.the-variants.{ByBisection, ByBrent}
 use Rattle.search.proofs.Residuals.{of-true, no-zero, unlike-signs}
-use Rattle.search.proofs.BisectionRuns.{bisection-owes, bisection-nested, bisection-last, bisection-each}
+use Rattle.search.proofs.BisectionRuns.{bisection-owes, bisection-nested, bisection-reports, bisection-each}
 use Rattle.search.proofs.BrentRuns.{zbrent-owes, zbrent-nested, zbrent-reports, zbrent-each}
 
 -- ---- the list, as the code goes through it
@@ -53,7 +53,7 @@ run-nested ByBrent f s g limit = zbrent-nested f s g limit
 
 run-told : (m : Method) (f : Float → Float) (s : Bracket) → Start f s → (limit : ℕ) → Told m f s limit
 unfolding run brackets
-run-told (ByBisection rule) f s g limit = record { at-last = bisection-last (widthOf rule) f s limit; each = bisection-each (widthOf rule) f s limit }
+run-told (ByBisection rule) f s g limit = record { at-last = bisection-reports (widthOf rule) f s limit; each = bisection-each (widthOf rule) f s limit }
 run-told ByBrent f s g limit = record { at-last = zbrent-reports f s g limit; each = zbrent-each f s g limit }
 
 run-owes : (m : Method) (f : Float → Float) (s : Bracket) → Start f s → (limit : ℕ) → Owes m f s (run m f s limit)
