@@ -1,4 +1,4 @@
--- Where an operation does not overflow: the exact result is at most some double in size. Assumes nothing.
+-- Where an operation does not overflow: the exact result is at most some double in size; and that a sum which may is no NaN. Assumes nothing.
 use mathlib.Core.Path.{_≡_, refl, sym, ap, _∙_, subst}
 use mathlib.Core.Bool.{Bool, true, false, cond, _&&_, Bool·beq}
 use Prim.Native.Nat.{ℕ, zero, suc, _+_, _-_, _*_, _^_, _≤_, _<_}

@@ -174,6 +174,11 @@ either a b = go (leb a b) (leb→le a b) (nleb→lt a b)
     go true x y = inl (x tt)
     go false x y = inr (y tt)
 
+-- a choice, the other way round
+pub other-way : {A B : Type 0} → A ⊎ B → B ⊎ A
+other-way (inl a) = inr a
+other-way (inr b) = inl b
+
 pub grid-err-whole : (a : ℕ) → Within (grid a 1) a 1 a
 grid-err-whole a = go (either (2 ^ 53) a)
   where

@@ -13,7 +13,7 @@ use Rattle.exact.specs.Value.{unit, inUnits, plus, minus, double, AtMost
 use lib.Ieee.Scale.{finite}
 use Rattle.exact.specs.Rounding.{grid, Rounds, apart}
 use Rattle.exact.specs.Middle.{half, Ends, Between, Halfway, middle}
-use Rattle.exact.proofs.Grid.{grid-ulp, grid-exact, grid-mono, grid-same, grid-small, grid-zero, either, grid-err-whole}
+use Rattle.exact.proofs.Grid.{grid-ulp, grid-exact, grid-mono, grid-same, grid-small, grid-zero, either, other-way, grid-err-whole}
 use Rattle.exact.proofs.Value.{unit-pos, Rep, units-rep, plus-rep, minus-rep, one-sided, grid-rep, units-of-plus, units-apart, positive-minus, positive-double}
 use Rattle.exact.proofs.Order.{le→exact}
 use Rattle.exact.proofs.Operations.{add-rounds, mul-rounds}
@@ -84,7 +84,7 @@ half-units = unfold plus inUnits unit in refl
 half-minus : minus half ≡ 0
 half-minus = unfold minus in refl
 
-pub half-finite : (s : Float) → T (double s) → T (finite (half ⊗ s))
+half-finite : (s : Float) → T (double s) → T (finite (half ⊗ s))
 half-finite s d = mul-finite half s s half-double d d (rw (units-of-plus half half-minus, ← half-units) (omega arith))
 
 half-rounds : (s : Float) → T (double s) → Rounds (half ⊗ s) (plus half * plus s + minus half * minus s) (plus half * minus s + minus half * plus s) unit
@@ -125,22 +125,15 @@ middle-between x1 x2 p q l h =
     let R = add-rounds x1 x2 p q h in
     let M = half-rounds s (R .is-double) in
     let low : plus x1 * 2 + minus s ≤ plus s + minus x1 * 2 = rw (R .plus-is, R .minus-is) (doubled (plus x1) (minus x1) P N (plus-rep x1 p) (minus-rep x1 p) (one-sided x1) (omega (arith, l))) in
-    let high : minus x2 * 2 + plus s ≤ minus s + plus x2 * 2 = rw (R .plus-is, R .minus-is) (doubled (minus x2) (plus x2) N P (minus-rep x2 q) (plus-rep x2 q) (other (one-sided x2)) (omega (arith, l))) in
+    let high : minus x2 * 2 + plus s ≤ minus s + plus x2 * 2 = rw (R .plus-is, R .minus-is) (doubled (minus x2) (plus x2) N P (minus-rep x2 q) (plus-rep x2 q) (other-way (one-sided x2)) (omega (arith, l))) in
     record {
       is-double = M .is-double;
       above = rounds-ge (half ⊗ s) x1 (plus half * plus s + minus half * minus s) (plus half * minus s + minus half * plus s) unit M unit-pos p (scaled (plus half) (minus half) (plus x1) (minus x1) (plus s) (minus s) unit half-units half-minus low);
-      under = rounds-le (half ⊗ s) x2 (plus half * plus s + minus half * minus s) (plus half * minus s + minus half * plus s) unit M unit-pos q (scaled' (plus half) (minus half) (plus x2) (minus x2) (plus s) (minus s) unit half-units half-minus high);
+      under = rounds-le (half ⊗ s) x2 (plus half * plus s + minus half * minus s) (plus half * minus s + minus half * plus s) unit M unit-pos q (omega (arith, scaled (plus half) (minus half) (minus x2) (plus x2) (minus s) (plus s) unit half-units half-minus high));
     }
   where
-    other : {A B : Type 0} → A ⊎ B → B ⊎ A
-    other (inl a) = inr a
-    other (inr b) = inl b
-
     scaled : (H o a b P n u : ℕ) → H * 2 ≡ u → o ≡ 0 → a * 2 + n ≤ P + b * 2 → a * u + (H * n + o * P) ≤ H * P + o * n + b * u
     scaled H o a b P n u e f h = rw (f, ← e) (omega (arith, mul-le-mul-left H h))
-
-    scaled' : (H o a b P n u : ℕ) → H * 2 ≡ u → o ≡ 0 → b * 2 + P ≤ n + a * 2 → H * P + o * n + b * u ≤ a * u + (H * n + o * P)
-    scaled' H o a b P n u e f h = rw (f, ← e) (omega (arith, mul-le-mul-left H h))
 
 -- ---- where neither is negative, how near it is to the exact middle
 pub halfway : (x1 x2 : Float) → T (double x1) → T (double x2) → minus x1 ≡ 0 → minus x2 ≡ 0 → plus x1 ≤ plus x2 → T (finite (x1 ⊕ x2)) → Halfway x1 x2 (middle x1 x2)

@@ -12,6 +12,7 @@ use Rattle.exact.specs.Operations.{_⊕_, _⊖_, _⊗_}
 use Rattle.exact.specs.Value.{inUnits, double}
 use Rattle.exact.specs.Rounding.{distance}
 use Rattle.exact.specs.Middle.{half, middle}
+use Rattle.exact.proofs.Order.{or-l}
 use Rattle.exact.proofs.Operations.{sub-rounds}
 use Rattle.exact.proofs.Finite.{add-number}
 use Rattle.exact.proofs.Halfway.{middle-between}
@@ -60,12 +61,8 @@ module _ (f : Float → Float) (w b : Bracket) (h : Held f w b) where
       let p = h .lower .is-double in
       let q = h .upper .is-double in
       let w = b .x1 ⊖ b .x2 in
-      let F = bounded-finite w (width b) d (at-least (lt (magnitude w) (width b)) (eq (magnitude w) (width b)) (of-true t)) in
+      let F = bounded-finite w (width b) d (or-l (lt (magnitude w) (width b)) (eq (magnitude w) (width b)) (of-true t)) in
       narrow-exact (b .x1) (b .x2) p q F (width b) d (magnitude-lt w (width b) (sub-rounds (b .x1) (b .x2) p q F .is-double) d (of-true t))
-    where
-      at-least : (a c : Bool) → T a → T (a || c)
-      at-least true c t = tt
-      at-least false c t = absurd t
 
 -- ---- what a step keeps: a bracket in w with opposite residuals
 abbrev Kept : (Float → Float) → Bracket → Bracket → Type 0

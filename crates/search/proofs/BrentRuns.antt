@@ -16,6 +16,7 @@ use Rattle.exact.specs.Operations.{_⊕_, _⊖_, _⊗_}
 use Rattle.exact.specs.Value.{inUnits, double, Less}
 use Rattle.exact.specs.Rounding.{distance}
 use Rattle.exact.specs.Middle.{half, middle}
+use Rattle.exact.proofs.Grid.{other-way}
 use Rattle.exact.proofs.Value.{double-of}
 use Rattle.exact.proofs.Order.{lt→exact, exact→lt, le→exact, not-lt→le}
 use Rattle.exact.proofs.Width.{half-narrow}
@@ -53,10 +54,6 @@ by-order Q f w b fb c fc p q up down = pick (lt b c) refl
 -- two points that are not the same, whichever is the lower: their order says which is which
 abbrev Unlike : Float → Float → Type 0
 Unlike b c = Less b c ⊎ Less c b
-
-turned-round : (b c : Float) → Unlike b c → Unlike c b
-turned-round b c (inl h) = inr h
-turned-round b c (inr h) = inl h
 
 not-back : (b c : Float) → T (double b) → T (double c) → Less b c → lt c b ≡ false
 not-back b c p q h = is-false (lt c b) (not-T (lt c b) (λ k. let l = lt→exact c b q p k in omega (arith, h, l)))
@@ -160,7 +157,7 @@ module _ (f : Float → Float) (w : Bracket) where
       turned k (inr z) = absurd (not-less (s .fc) (s .fb) z k)
 
       pick : (t : Bool) → lt (magnitude (s .fc)) (magnitude (s .fb)) ≡ t → Sound f w (cond t swapped s)
-      pick true k = record { last = h .other; other = h .last; signs = turned k (h .signs); apart = turned-round (s .b) (s .c) (h .apart) }
+      pick true k = record { last = h .other; other = h .last; signs = turned k (h .signs); apart = other-way (h .apart) }
       pick false k = h
 
   sorted-bracket : (s : Brent) → Sound f w s → bracketOf (sorted s) ≡ bracketOf s

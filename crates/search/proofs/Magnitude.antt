@@ -1,4 +1,4 @@
--- The magnitude of a double in exact units: the same size, and not negative; and what a comparison of it with a double says of sizes. By cases on the double. Assumes nothing.
+-- The magnitude of a double in exact units: the same size, and not negative; what a comparison of it with a double says of sizes, and that what is at most a double is finite. By cases on the double. Assumes nothing.
 use mathlib.Core.Path.{_≡_, refl}
 use Prim.Native.Nat.{_+_, _-_, _≤_, _<_}
 use native.Mathlib.Omega.{arith}
