@@ -10,6 +10,9 @@ use std::panic;
 /// How near to an end of its interval a state lies where rounding may lose the answer of one alone: Climboat's T_saturation lies within 1.0e-9 of the original's, its region 2 s within 1.0e-12 (`compare equations`).
 const AT_END: f64 = 1.0e-9;
 
+/// Below which the original's bisections stop as narrow, both of them.
+pub const CRATES_WIDTH: f64 = 1.0e-6;
+
 const SAME: &str = "the same double";
 const UNEXPLAINED: &str = "UNEXPLAINED";
 
@@ -127,7 +130,7 @@ impl Search {
         let inputs = self.written(input);
         let kind = kinds.entry(self.kind(input, ours, answer)).or_default();
         kind.meet(counted, ours, answer, input.target, &inputs);
-        if ours.number == 0 && input.of.is_some_and(|x| (ours.value - x).abs() > 1.0e-3 * x + self.reach(x)) {
+        if ours.number == 0 && input.of.is_some_and(|x| (ours.value - x).abs() > 1.0e-3 * x + self.reach(x, CRATES_WIDTH)) {
             elsewhere.meet(counted, ours, answer, input.target, &inputs);
         }
     }
@@ -170,19 +173,20 @@ impl Search {
     /// The kind of two answers. Ours must satisfy the reason that it gives.
     fn both(&self, input: &Input, ours: Record, y: f64) -> &'static str {
         let x = ours.value;
-        if !self.stopped(input, x, ours.reason) {
+        let (reach, theirs) = (self.reach(x, self.width.map_or(0.0, |width| width(ours.upper))), self.reach(y, CRATES_WIDTH));
+        if !self.stopped(input, x, ours.reason, reach) {
             UNEXPLAINED
         } else if same(x, y) {
             SAME
-        } else if (x - y).abs() <= self.reach(x) + self.reach(y) {
+        } else if (x - y).abs() <= reach + theirs {
             "no farther apart than both stops allow"
-        } else if self.stopped(input, y, SMALL_RESIDUAL) && self.stopped(input, 0.5 * (x + y), SMALL_RESIDUAL) {
+        } else if self.small(input, y) && self.small(input, 0.5 * (x + y)) {
             "judged by residual: both in one band of small residuals"
         } else if ours.reason != EXACT_END {
             UNEXPLAINED
-        } else if self.stopped(input, y, SMALL_RESIDUAL) || self.stopped(input, y, NARROW) {
+        } else if self.small(input, y) || self.stopped(input, y, NARROW, theirs) {
             "judged by residual: ours at an end, the original's at a second root"
-        } else if self.bisection && x == (self.ends)(input.fixed).0 {
+        } else if self.bisection() && x == (self.ends)(input.fixed).0 {
             "judged by residual: ours at the lower end, the original's no root"
         } else {
             UNEXPLAINED
@@ -207,7 +211,7 @@ impl Search {
     /// By the original's own property.
     fn residual(&self, input: &Input, x: f64) -> f64 {
         let found = self.at(input.fixed, x);
-        if self.bisection {
+        if self.bisection() {
             (input.target - found) / input.target
         } else {
             input.target - found
@@ -215,16 +219,20 @@ impl Search {
     }
 
     /// How far from a narrow answer its root can lie: half of bisection's width, and both ends of Brent's bracket.
-    fn reach(&self, x: f64) -> f64 {
-        if self.bisection {
-            0.5e-6
+    fn reach(&self, x: f64, width: f64) -> f64 {
+        if self.bisection() {
+            0.5 * width
         } else {
             2.0 * (2.0 * 3.0e-8 * x.abs() + 0.5e-8)
         }
     }
 
+    fn small(&self, input: &Input, x: f64) -> bool {
+        self.stopped(input, x, SMALL_RESIDUAL, 0.0)
+    }
+
     /// Whether the search may stop at x for the reason, by the original's own property. Narrow: the residual changes its sign within reach.
-    fn stopped(&self, input: &Input, x: f64, reason: u32) -> bool {
+    fn stopped(&self, input: &Input, x: f64, reason: u32, reach: f64) -> bool {
         let (low, high) = (self.ends)(input.fixed);
         let at = self.residual(input, x);
         let zero = at.abs() <= self.apart();
@@ -233,9 +241,9 @@ impl Search {
             at * there <= 0.0 || zero || there.abs() <= self.apart()
         };
         match reason {
-            SMALL_RESIDUAL if self.bisection => at.abs() < 1.0e-8,
+            SMALL_RESIDUAL if self.bisection() => at.abs() < 1.0e-8,
             EXACT_END | SMALL_RESIDUAL => zero,
-            NARROW => changes(x - self.reach(x)) || changes(x + self.reach(x)),
+            NARROW => changes(x - reach) || changes(x + reach),
             _ => false,
         }
     }

@@ -1,4 +1,4 @@
-//! Climboat against Rust: `compare helpers` compares the float helpers, `compare equations` the equations with the original crate, `compare searches` the pair searches with its test copy and with itself, `compare doubles` any two doubles with the refusal table read a second time, `compare recorded` makes the answers that crates/replay keeps, `compare timing` prints the tables of docs/SPEED.md.
+//! Climboat against Rust: `compare helpers` compares the float helpers, `compare equations` the equations with the original crate, `compare searches` the pair searches with its test copy and with itself, `compare doubles` any two doubles with the refusal table read a second time, `compare recorded` makes the answers that crates/replay keeps, `compare vacuum` searches region 2 (T,v) from a low vacuum upwards and makes a table of docs/DIFFERENCES.md, `compare timing` prints the tables of docs/SPEED.md.
 
 mod climboat;
 #[cfg(feature = "original")]
@@ -23,6 +23,8 @@ mod searches;
 mod table;
 mod tally;
 mod timing;
+#[cfg(feature = "original")]
+mod vacuum;
 
 use std::process::ExitCode;
 
@@ -38,12 +40,14 @@ fn main() -> ExitCode {
         ["doubles", ref words @ ..] => told(doubles::command(words)),
         #[cfg(feature = "original")]
         ["recorded", ref words @ ..] => told(recorded::command(words)),
+        #[cfg(feature = "original")]
+        ["vacuum", ref words @ ..] => told(vacuum::command(words)),
         ["timing"] => {
             timing::tables();
             ExitCode::SUCCESS
         }
         _ => {
-            eprintln!("usage: compare helpers | equations | searches | doubles [N] | recorded [FOLDER | --check] | timing (helpers and timing alone where the original crate is not at hand)");
+            eprintln!("usage: compare helpers | equations | searches | doubles [N] | recorded [FOLDER | --check] | vacuum [--check] | timing (helpers and timing alone where the original crate is not at hand)");
             ExitCode::from(2)
         }
     }

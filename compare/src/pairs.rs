@@ -22,7 +22,8 @@ pub struct Search {
     pub name: &'static str,
     pub region: u32,
     pub pair: Pair,
-    pub bisection: bool,
+    /// bisection's narrow rule, the width that a bracket with this upper end stays below; none for Brent's search
+    pub width: Option<fn(f64) -> f64>,
     /// between which ends, for the input that is fixed
     pub ends: fn(f64) -> (f64, f64),
     pub property: Function,
@@ -32,14 +33,14 @@ pub struct Search {
 
 #[rustfmt::skip]
 pub const SEARCHES: [Search; 8] = [
-    Search { name: "region 1 (p,v) to T", region: 1, pair: Pair::Pv, bisection: true, ends: |p| (273.15, if p >= 16.5291643 { 623.15 } else { T_saturation(p) }), property: r1::pT2v_reg1, copys: copy1::pv2T_reg1, rusts: pairs1::pv2T_reg1 },
-    Search { name: "region 1 (T,v) to p", region: 1, pair: Pair::Tv, bisection: false, ends: |t| (p_saturation(t), 100.0), property: r1::pT2v_reg1, copys: copy1::Tv2p_reg1, rusts: pairs1::Tv2p_reg1 },
-    Search { name: "region 1 (T,h) to p", region: 1, pair: Pair::Th, bisection: false, ends: |t| (p_saturation(t), 100.0), property: r1::pT2h_reg1, copys: copy1::Th2p_reg1, rusts: pairs1::Th2p_reg1 },
-    Search { name: "region 1 (T,s) to p", region: 1, pair: Pair::Ts, bisection: false, ends: |t| (p_saturation(t), 100.0), property: r1::pT2s_reg1, copys: copy1::Ts2p_reg1, rusts: pairs1::Ts2p_reg1 },
-    Search { name: "region 2 (p,v) to T", region: 2, pair: Pair::Pv, bisection: false, ends: |p| (least(p), 1073.15), property: r2::pT2v_reg2, copys: copy2::pv2T_reg2, rusts: pairs2::pv2T_reg2 },
-    Search { name: "region 2 (T,v) to p", region: 2, pair: Pair::Tv, bisection: true, ends: |_| (1.0e-8, 100.0), property: r2::pT2v_reg2, copys: copy2::Tv2p_reg2, rusts: pairs2::Tv2p_reg2 },
-    Search { name: "region 2 (T,h) to p", region: 2, pair: Pair::Th, bisection: false, ends: |_| (1.0e-8, 100.0), property: r2::pT2h_reg2, copys: copy2::Th2p_reg2, rusts: pairs2::Th2p_reg2 },
-    Search { name: "region 2 (T,s) to p", region: 2, pair: Pair::Ts, bisection: false, ends: |t| (1.0e-8, highest(t)), property: r2::pT2s_reg2, copys: copy2::Ts2p_reg2, rusts: pairs2::Ts2p_reg2 },
+    Search { name: "region 1 (p,v) to T", region: 1, pair: Pair::Pv, width: Some(|_| 1.0e-6), ends: |p| (273.15, if p >= 16.5291643 { 623.15 } else { T_saturation(p) }), property: r1::pT2v_reg1, copys: copy1::pv2T_reg1, rusts: pairs1::pv2T_reg1 },
+    Search { name: "region 1 (T,v) to p", region: 1, pair: Pair::Tv, width: None, ends: |t| (p_saturation(t), 100.0), property: r1::pT2v_reg1, copys: copy1::Tv2p_reg1, rusts: pairs1::Tv2p_reg1 },
+    Search { name: "region 1 (T,h) to p", region: 1, pair: Pair::Th, width: None, ends: |t| (p_saturation(t), 100.0), property: r1::pT2h_reg1, copys: copy1::Th2p_reg1, rusts: pairs1::Th2p_reg1 },
+    Search { name: "region 1 (T,s) to p", region: 1, pair: Pair::Ts, width: None, ends: |t| (p_saturation(t), 100.0), property: r1::pT2s_reg1, copys: copy1::Ts2p_reg1, rusts: pairs1::Ts2p_reg1 },
+    Search { name: "region 2 (p,v) to T", region: 2, pair: Pair::Pv, width: None, ends: |p| (least(p), 1073.15), property: r2::pT2v_reg2, copys: copy2::pv2T_reg2, rusts: pairs2::pv2T_reg2 },
+    Search { name: "region 2 (T,v) to p", region: 2, pair: Pair::Tv, width: Some(|upper| 1.0e-6 * upper), ends: |_| (1.0e-8, 100.0), property: r2::pT2v_reg2, copys: copy2::Tv2p_reg2, rusts: pairs2::Tv2p_reg2 },
+    Search { name: "region 2 (T,h) to p", region: 2, pair: Pair::Th, width: None, ends: |_| (1.0e-8, 100.0), property: r2::pT2h_reg2, copys: copy2::Th2p_reg2, rusts: pairs2::Th2p_reg2 },
+    Search { name: "region 2 (T,s) to p", region: 2, pair: Pair::Ts, width: None, ends: |t| (1.0e-8, highest(t)), property: r2::pT2s_reg2, copys: copy2::Ts2p_reg2, rusts: pairs2::Ts2p_reg2 },
 ];
 
 /// The highest pressure of region 2 at t, beyond its range as the original has it: it keeps its own to itself.
@@ -65,6 +66,10 @@ fn least(p: f64) -> f64 {
 impl Search {
     pub fn seeks_t(&self) -> bool {
         self.pair == Pair::Pv
+    }
+
+    pub fn bisection(&self) -> bool {
+        self.width.is_some()
     }
 
     pub fn ours(&self, fixed: f64, target: f64, limit: u32) -> Record {

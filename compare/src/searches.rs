@@ -64,7 +64,7 @@ fn targets(search: &Search, draw: &mut Draw, fixed: f64) -> impl Iterator<Item =
 /// For Brent's search, targets at an end of a narrow answer's bracket that it meets exactly: a residual of zero, now and then in a bracket that is narrow too.
 fn met_exactly(search: &Search, fixed: f64, target: f64) -> impl Iterator<Item = (f64, f64)> + '_ {
     let run = (search.copys)(fixed, target, LIMIT as i32);
-    let ends = if run.reason == NARROW && !search.bisection { vec![run.lower, run.upper] } else { Vec::new() };
+    let ends = if run.reason == NARROW && !search.bisection() { vec![run.lower, run.upper] } else { Vec::new() };
     let targets = ends.into_iter().map(move |x| search.at(fixed, x));
     let met = targets.filter(move |&target| search.passes(fixed, target) && search.at(fixed, (search.copys)(fixed, target, LIMIT as i32).value) == target);
     met.map(move |target| (fixed, target))

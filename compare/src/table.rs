@@ -1,6 +1,6 @@
-//! The refusal table, read a second time from document 01 and not from Climboat: what every public call gives, over the test copy's functions.
+//! The refusal table and the steps of bisection, read a second time from the documents and not from Climboat: what every public call gives, over the test copy's functions. The test copy's own outcome of a search must be the same wherever this reading has one; Brent's steps are the test copy's.
 
-use crate::climboat::{Line, Pair, Record, EXACT_END, INSIDE, OUTSIDE, VALUE};
+use crate::climboat::{Line, Pair, Record, EXACT_END, INSIDE, NARROW, OUTSIDE, SMALL_RESIDUAL, VALUE};
 use copy::common::boundaries::{B23_T2p, B23_p2T};
 use copy::r1::region1_pT as r1;
 use copy::r1::region1_pair_ext as pairs1;
@@ -100,7 +100,8 @@ fn boundary(t: f64) -> f64 {
 pub struct Search {
     pub pair: Pair,
     pub region: u32,
-    bisection: bool,
+    /// bisection, by the width that a narrow bracket with this upper end stays below; none for Brent's search
+    width: Option<fn(f64) -> f64>,
     pub ends: fn(f64) -> (f64, f64),
     property: Property,
     run: fn(f64, f64, i32) -> Run,
@@ -108,14 +109,14 @@ pub struct Search {
 
 #[rustfmt::skip]
 pub const SEARCHES: [Search; 8] = [
-    Search { pair: Pair::Pv, region: 1, bisection: true, ends: |p| (273.15, if p >= 16.5291643 { 623.15 } else { T_saturation(p) }), property: r1::pT2v_reg1, run: pairs1::pv2T_reg1 },
-    Search { pair: Pair::Pv, region: 2, bisection: false, ends: |p| (lowest_temperature(p), 1073.15), property: r2::pT2v_reg2, run: pairs2::pv2T_reg2 },
-    Search { pair: Pair::Tv, region: 1, bisection: false, ends: |t| (p_saturation(t), 100.0), property: r1::pT2v_reg1, run: pairs1::Tv2p_reg1 },
-    Search { pair: Pair::Tv, region: 2, bisection: true, ends: |_| (1.0e-8, 100.0), property: r2::pT2v_reg2, run: pairs2::Tv2p_reg2 },
-    Search { pair: Pair::Th, region: 1, bisection: false, ends: |t| (p_saturation(t), 100.0), property: r1::pT2h_reg1, run: pairs1::Th2p_reg1 },
-    Search { pair: Pair::Th, region: 2, bisection: false, ends: |_| (1.0e-8, 100.0), property: r2::pT2h_reg2, run: pairs2::Th2p_reg2 },
-    Search { pair: Pair::Ts, region: 1, bisection: false, ends: |t| (p_saturation(t), 100.0), property: r1::pT2s_reg1, run: pairs1::Ts2p_reg1 },
-    Search { pair: Pair::Ts, region: 2, bisection: false, ends: |t| (1.0e-8, boundary(t)), property: r2::pT2s_reg2, run: pairs2::Ts2p_reg2 },
+    Search { pair: Pair::Pv, region: 1, width: Some(|_| 1.0e-6), ends: |p| (273.15, if p >= 16.5291643 { 623.15 } else { T_saturation(p) }), property: r1::pT2v_reg1, run: pairs1::pv2T_reg1 },
+    Search { pair: Pair::Pv, region: 2, width: None, ends: |p| (lowest_temperature(p), 1073.15), property: r2::pT2v_reg2, run: pairs2::pv2T_reg2 },
+    Search { pair: Pair::Tv, region: 1, width: None, ends: |t| (p_saturation(t), 100.0), property: r1::pT2v_reg1, run: pairs1::Tv2p_reg1 },
+    Search { pair: Pair::Tv, region: 2, width: Some(|upper| 1.0e-6 * upper), ends: |_| (1.0e-8, 100.0), property: r2::pT2v_reg2, run: pairs2::Tv2p_reg2 },
+    Search { pair: Pair::Th, region: 1, width: None, ends: |t| (p_saturation(t), 100.0), property: r1::pT2h_reg1, run: pairs1::Th2p_reg1 },
+    Search { pair: Pair::Th, region: 2, width: None, ends: |_| (1.0e-8, 100.0), property: r2::pT2h_reg2, run: pairs2::Th2p_reg2 },
+    Search { pair: Pair::Ts, region: 1, width: None, ends: |t| (p_saturation(t), 100.0), property: r1::pT2s_reg1, run: pairs1::Ts2p_reg1 },
+    Search { pair: Pair::Ts, region: 2, width: None, ends: |t| (1.0e-8, boundary(t)), property: r2::pT2s_reg2, run: pairs2::Ts2p_reg2 },
 ];
 
 fn lowest_temperature(p: f64) -> f64 {
@@ -138,11 +139,12 @@ pub fn search(pair: Pair, region: u32, fixed: f64, target: f64, limit: u32) -> R
     let (lower, upper) = (search.ends)(fixed);
     let start = Record { lower, upper, ..NOTHING };
     let opening = search.opening(fixed, target, start);
+    let read = opening.or_else(|| search.width.map(|width| search.bisected(width, fixed, target, limit, start)));
     let Run { number, reason, value, steps, lower, upper } = (search.run)(fixed, target, limit as i32);
     let run = Record { number, reason, steps, mark: 0, value, lower, upper };
-    let agree = opening.map_or_else(|| after_opening(&start, &run), |opening| opening.same(&run));
-    assert!(agree, "the test copy opens otherwise than the table at {:016x} {:016x}: {start:?}, {opening:?}, {run:?}", fixed.to_bits(), target.to_bits());
-    search.marked(fixed, opening.unwrap_or(run))
+    let agree = read.map_or_else(|| after_opening(&start, &run), |read| read.same(&run));
+    assert!(agree, "the test copy reads otherwise than the table at {:016x} {:016x}: {start:?}, {read:?}, {run:?}", fixed.to_bits(), target.to_bits());
+    search.marked(fixed, read.unwrap_or(run))
 }
 
 /// Whether a run is one that the steps decided, from the same bracket.
@@ -204,6 +206,32 @@ impl Search {
         }
     }
 
+    /// Bisection's steps, from ends whose residuals are finite and opposite.
+    fn bisected(&self, width: fn(f64) -> f64, fixed: f64, target: f64, limit: u32, start: Record) -> Record {
+        let mut bracket = start;
+        let below = self.residual(fixed, target, start.lower) < 0.0;
+        for steps in 1..=limit {
+            let Record { lower, upper, .. } = bracket;
+            let middle = 0.5 * (lower + upper);
+            if middle < lower || upper < middle {
+                return Record { number: 10, steps: steps - 1, ..bracket };
+            }
+            let at_middle = self.residual(fixed, target, middle);
+            if !at_middle.is_finite() {
+                return Record { number: 6, steps, ..bracket };
+            } else if at_middle.abs() < 1.0e-8 {
+                return Record { reason: SMALL_RESIDUAL, value: middle, steps, ..bracket };
+            } else if (lower - upper).abs() < width(upper) {
+                return Record { reason: NARROW, value: middle, steps, ..bracket };
+            } else if (at_middle < 0.0) == below {
+                bracket.lower = middle;
+            } else {
+                bracket.upper = middle;
+            }
+        }
+        Record { number: 8, value: 0.5 * (bracket.lower + bracket.upper), steps: limit, ..bracket }
+    }
+
     /// v, h or s at the point x.
     pub fn found(&self, fixed: f64, x: f64) -> f64 {
         if self.seeks_t() {
@@ -215,7 +243,7 @@ impl Search {
 
     fn residual(&self, fixed: f64, target: f64, x: f64) -> f64 {
         let found = self.found(fixed, x);
-        if self.bisection {
+        if self.width.is_some() {
             (target - found) / target
         } else {
             target - found

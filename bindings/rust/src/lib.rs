@@ -122,7 +122,15 @@ pub fn pv2t(region: Region, p: f64, v: f64, limit: u32) -> Result<Reading, Refus
     archive::pv2t(region.number(), p, v, limit).read()
 }
 
-/// (T,v) to p: T from 273.15 to 623.15 (region 1) or 1073.15 K (region 2), v above zero.
+/// (T,v) to p: T from 273.15 to 623.15 (region 1) or 1073.15 K (region 2), v above zero. The ends of a narrow answer of region 2 are less than a millionth of the upper one apart, in a low vacuum too.
+///
+/// ```
+/// use climboat::{property, tv2p, Property, Region, STEP_LIMIT};
+///
+/// let v = property(Region::Two, Property::Volume, 1.0e-5, 280.0).unwrap().value;
+/// let p = tv2p(Region::Two, 280.0, v, STEP_LIMIT).unwrap().value;
+/// assert!((p - 1.0e-5).abs() < 1.0e-6 * p);
+/// ```
 pub fn tv2p(region: Region, t: f64, v: f64, limit: u32) -> Result<Reading, Refusal> {
     archive::tv2p(region.number(), t, v, limit).read()
 }

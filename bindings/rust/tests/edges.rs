@@ -239,13 +239,20 @@ fn each_pair_of_region_1() {
 }
 
 #[test]
-fn each_pair_of_region_2_but_tv() {
+fn each_pair_of_region_2() {
+    let v = property(Region::Two, Property::Volume, 1.0e-5, 280.0)
+        .unwrap()
+        .value;
     let h = property(Region::Two, Property::Enthalpy, 1.0, 600.0)
         .unwrap()
         .value;
     same(
         "region 2 (p,v), p = 1.0e-8",
         pv2t(Region::Two, 1.0e-8, 2.0e7, STEP_LIMIT),
+    );
+    same(
+        "region 2 (T,v), a pressure of a low vacuum",
+        tv2p(Region::Two, 280.0, v, STEP_LIMIT),
     );
     same(
         "region 2 (T,h), a pressure inside",

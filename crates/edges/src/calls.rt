@@ -299,6 +299,13 @@ pub fn inside() {
         pT2h_reg2(1.0, 600.0),
         STEP_LIMIT,
     );
+    by_Tv(
+        b"region 2 (T,v), a pressure of a low vacuum",
+        Region::Two,
+        280.0,
+        pT2v_reg2(1.0e-5, 280.0),
+        STEP_LIMIT,
+    );
     by_pv(
         b"region 2 (p,v), a temperature",
         PvRegion::Two,

@@ -7,7 +7,7 @@ use Rattle.common.specs.declared.boundaries.Range.{Range}
 use Rattle.common.specs.declared.boundaries.Range.the-variants.{T1, P1, T2, P2}
 use Rattle.r1.specs.Region1 as region1
 use Rattle.r2.specs.Region2 as region2
-use Rattle.search.specs.declared.bisection.Width.the-variants.{Millionth}
+use Rattle.search.specs.declared.bisection.Width.the-variants.{Millionth, MillionthOfUpper}
 use Rattle.search.specs.declared.method.Method.{Method}
 use Rattle.search.specs.declared.method.Method.the-variants.{ByBisection, ByBrent}
 use Rattle.r4.specs.Ends.{always, p-lowest-1, T-most-1, T-least-2, p-most-2}
@@ -32,6 +32,6 @@ row Tv1 = record { region = One; range = T1; volume = true; lower = p-lowest-1; 
 row Th1 = record { region = One; range = T1; volume = false; lower = p-lowest-1; upper = always p-most; formula = region1.pT2h; method = ByBrent }
 row Ts1 = record { region = One; range = T1; volume = false; lower = p-lowest-1; upper = always p-most; formula = region1.pT2s; method = ByBrent }
 row Pv2 = record { region = Two; range = P2; volume = true; lower = T-least-2; upper = always T-1073; formula = region2.pT2v; method = ByBrent }
-row Tv2 = record { region = Two; range = T2; volume = true; lower = always p-least; upper = always p-most; formula = region2.pT2v; method = ByBisection Millionth }
+row Tv2 = record { region = Two; range = T2; volume = true; lower = always p-least; upper = always p-most; formula = region2.pT2v; method = ByBisection MillionthOfUpper }
 row Th2 = record { region = Two; range = T2; volume = false; lower = always p-least; upper = always p-most; formula = region2.pT2h; method = ByBrent }
 row Ts2 = record { region = Two; range = T2; volume = false; lower = always p-least; upper = p-most-2; formula = region2.pT2s; method = ByBrent }

@@ -126,7 +126,8 @@ impl Pair {
         ensures { λ r. ⌜ r ≡ row self .method ⌝ }
     {
         match self {
-            Pair::Pv1 | Pair::Tv2 => Method::ByBisection(Width::Millionth),
+            Pair::Pv1 => Method::ByBisection(Width::Millionth),
+            Pair::Tv2 => Method::ByBisection(Width::MillionthOfUpper),
             Pair::Tv1 | Pair::Th1 | Pair::Ts1 | Pair::Pv2 | Pair::Th2 | Pair::Ts2 =>
                 Method::ByBrent,
         }

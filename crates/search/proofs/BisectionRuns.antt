@@ -1,32 +1,29 @@
 -- Demand 3 of bisection, for any residual function: the brackets of a run are nested with opposite residuals, an outcome reports the last of them, and is what demand 3 owes. A turn is inverted once
--- (`rule`); a middle that is not outside has a sum that does not overflow, so it lies between the ends, and the sign rule keeps the residuals opposite. Assumes nothing.
+-- (`rule-of`); a middle that is not outside has a sum that does not overflow, so it lies between the ends, and the sign rule keeps the residuals opposite. Assumes nothing.
 use mathlib.Core.Path.{_≡_, refl, ap, _∙_, subst}
 use mathlib.Core.Logic.{_⊎_, inl, inr}
 use mathlib.Core.Bool.{Bool, true, false, cond, _||_, true≢false}
 use mathlib.Core.List.{map-id}
-use Prim.Native.Nat.{ℕ, _+_, _≤_, _<_}
+use Prim.Native.Nat.{ℕ, _+_, _≤_}
 use lib.Dec.{T}
-use lib.Ieee.{Float, nan, inf, fin, mul, lt, le, eq, isNan}
+use lib.Ieee.{Float, nan, inf, fin, mul, lt, isNan}
 use lib.Ieee.Scale.{finite}
-use Rattle.exact.specs.Operations.{_⊕_, _⊖_, _⊗_}
+use Rattle.exact.specs.Operations.{_⊕_, _⊗_}
 use Rattle.exact.specs.Value.{inUnits, double}
-use Rattle.exact.specs.Rounding.{distance}
 use Rattle.exact.specs.Middle.{half, middle}
-use Rattle.exact.proofs.Order.{or-l}
-use Rattle.exact.proofs.Operations.{sub-rounds}
 use Rattle.exact.proofs.Finite.{add-number}
 use Rattle.exact.proofs.Halfway.{middle-between}
-use Rattle.exact.proofs.Width.{narrow as narrow-exact}
 use Rattle.float.specs.Sign.{nought, magnitude, sameSign}
 use Rattle.search.specs.Run.{Go, stop, go, statesFrom, last, Every}
-use Rattle.search.specs.Bisection.{small, middleOf, outside, step, narrow, turn, turnGo, next, spent, bisection, bisectionBrackets}
-use Rattle.search.specs.Demand.{Opposite, Start, Within, Nested, reported, RunOwes}
+use Rattle.search.specs.Bisection.{small, middleOf, outside, step, widthOf, narrow, turn, turnGo, next, spent, bisection, bisectionBrackets}
+use Rattle.search.specs.Demand.{Opposite, Start, Within, Nested, reported, RunOwes, Part}
 use Rattle.search.specs.declared.bracket.Bracket.{Bracket}
 use Rattle.search.specs.declared.bracket.Outcome.{Outcome}
 use Rattle.search.specs.declared.bracket.Outcome.the-variants.{SmallResidual, Narrow, Refused}
+use Rattle.search.specs.declared.bisection.Width.{Width}
 use Rattle.search.specs.declared.bisection.Turn.the-variants.{Done, Next}
 use Rattle.search.proofs.Runs.{Hands, keeps, reports-last, reports-each}
-use Rattle.search.proofs.Magnitude.{magnitude-lt, bounded-finite}
+use Rattle.search.proofs.Narrow.{narrow-distance, narrow-part}
 use Rattle.search.proofs.Residuals.{Nonzero, of-true, not-small, sign-rule}
 use Rattle.search.proofs.Places.{Place, Held, widened, own, within, signed, started, lies, enclosed, nested}
 
@@ -53,16 +50,6 @@ module _ (f : Float → Float) (w b : Bracket) (h : Held f w b) where
       let q = h .upper .is-double in
       let M = middle-between (b .x1) (b .x2) p q (h .order) (overflow (b .x1 ⊕ b .x2) (b .x1) (b .x2) (add-number (b .x1) (b .x2) p q) p q i) in
       record { is-double = M .is-double; residual = refl; from-lower = M .above; to-upper = M .under }
-
-  -- ---- the width before the step
-  thin : (width : Bracket → Float) → T (double (width b)) → narrow width b ≡ true → distance (b .x1) (b .x2) < inUnits (width b)
-  unfolding narrow le
-  thin width d t =
-      let p = h .lower .is-double in
-      let q = h .upper .is-double in
-      let w = b .x1 ⊖ b .x2 in
-      let F = bounded-finite w (width b) d (or-l (lt (magnitude w) (width b)) (eq (magnitude w) (width b)) (of-true t)) in
-      narrow-exact (b .x1) (b .x2) p q F (width b) d (magnitude-lt w (width b) (sub-rounds (b .x1) (b .x2) p q F .is-double) d (of-true t))
 
 -- ---- what a step keeps: a bracket in w with opposite residuals
 abbrev Kept : (Float → Float) → Bracket → Bracket → Type 0
@@ -91,9 +78,9 @@ module _ (width : Bracket → Float) (f : Float → Float) where
     narrow-now : outside b ≡ false → narrow width b ≡ true → Rule b n (stop (Narrow (middleOf b) (n + 1) b))
     next-now : outside b ≡ false → Nonzero (f (middleOf b)) → Rule b n (go (step b (f (middleOf b))))
 
-  rule : (b : Bracket) (n : ℕ) → Rule b n (next width f b n)
+  rule-of : (b : Bracket) (n : ℕ) → Rule b n (next width f b n)
   unfolding next turn
-  rule b n = pick (outside b) refl (finite (f m)) refl (lt (magnitude (f m)) small) refl (narrow width b) refl
+  rule-of b n = pick (outside b) refl (finite (f m)) refl (lt (magnitude (f m)) small) refl (narrow width b) refl
     where
       m : Float
       m = middleOf b
@@ -108,7 +95,7 @@ module _ (width : Bracket → Float) (f : Float → Float) where
 
   -- ---- the brackets of a run
   inward : (b : Bracket) (n : ℕ) → Kept f b b → Hands (λ o. Prim.Unit {0}) (λ c. Kept f c c × Within c b) (next width f b n)
-  inward b n k = by (rule b n)
+  inward b n k = by (rule-of b n)
     where
       by : {t : Go Outcome Bracket} → Rule b n t → Hands (λ o. Prim.Unit {0}) (λ c. Kept f c c × Within c b) t
       by outside-now = tt
@@ -123,7 +110,7 @@ module _ (width : Bracket → Float) (f : Float → Float) where
 
   -- ---- they are the ones that outcomes report: each outcome has the bracket of its turn
   turn-reports : (b : Bracket) (n : ℕ) → Prim.Unit {0} → Hands (λ o. reported o ≡ b) (λ c. Prim.Unit {0}) (next width f b n)
-  turn-reports b n u = by (rule b n)
+  turn-reports b n u = by (rule-of b n)
     where
       by : {t : Go Outcome Bracket} → Rule b n t → Hands (λ o. reported o ≡ b) (λ c. Prim.Unit {0}) t
       by outside-now = refl
@@ -148,16 +135,35 @@ module _ (width : Bracket → Float) (f : Float → Float) where
     Owed o = RunOwes (λ r. T (lt (magnitude r) small)) (λ b v. inUnits (width b)) f s o
 
     turn-owes : (b : Bracket) (n : ℕ) → Kept f s b → Hands Owed (Kept f s) (next width f b n)
-    turn-owes b n k = by (rule b n)
+    turn-owes b n k = by (rule-of b n)
       where
         by : {t : Go Outcome Bracket} → Rule b n t → Hands Owed (Kept f s) t
         by outside-now = (inr (inr refl), within (started g) (k .0))
         by spoilt-now = (inl refl, within (started g) (k .0))
         by (small-now i p) = (of-true p, lies (started g) (k .0) (middled f s b (k .0) i))
-        by (narrow-now i t) = enclosed (started g) (k .0) (k .1) (middled f s b (k .0) i) (thin f s b (k .0) width (d b (k .0 .lower .is-double) (k .0 .upper .is-double)) t)
+        by (narrow-now i t) =
+            let p = k .0 .lower .is-double in
+            let q = k .0 .upper .is-double in
+            enclosed (started g) (k .0) (k .1) (middled f s b (k .0) i) (narrow-distance width b p q (d b p q) t)
         by (next-now i z) = kept f s b k i z
 
     pub bisection-owes : (limit : ℕ) → RunOwes (λ r. T (lt (magnitude r) small)) (λ b v. inUnits (width b)) f s (bisection width f s limit)
     unfolding bisection
     bisection-owes limit =
         keeps (next width f) spent Owed (Kept f s) turn-owes (λ b n k. unfold spent in (inr (inl refl), within (started g) (k .0))) limit s 0 (started g, g .opposite)
+
+-- ---- by a named rule: a narrow outcome's bracket, of which the rule held
+module _ (rule : Width) (f : Float → Float) (s : Bracket) (g : Start f s) where
+  turn-part : (b : Bracket) (n : ℕ) → Kept f s b → Hands (Part rule) (Kept f s) (next (widthOf rule) f b n)
+  turn-part b n k = by (rule-of (widthOf rule) f b n)
+    where
+      by : {t : Go Outcome Bracket} → Rule (widthOf rule) f b n t → Hands (Part rule) (Kept f s) t
+      by outside-now = tt
+      by spoilt-now = tt
+      by (small-now i p) = tt
+      by (narrow-now i t) = narrow-part rule b (k .0 .lower .is-double) (k .0 .upper .is-double) t
+      by (next-now i z) = kept f s b k i z
+
+  pub bisection-part : (limit : ℕ) → Part rule (bisection (widthOf rule) f s limit)
+  unfolding bisection
+  bisection-part limit = keeps (next (widthOf rule) f) spent (Part rule) (Kept f s) turn-part (λ b n k. unfold spent in tt) limit s 0 (started g, g .opposite)

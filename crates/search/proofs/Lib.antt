@@ -2,10 +2,10 @@ pub mod Runs
 pub mod Magnitude
 pub mod Residuals
 pub mod Tolerance
+pub mod Narrow
 pub mod Places
 pub mod BisectionRuns
 pub mod BrentRuns
 pub mod Searches
 pub mod Patience
 pub mod Limit
-pub mod Millionth

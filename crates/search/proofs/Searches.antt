@@ -3,30 +3,28 @@
 -- goes through. Assumes nothing.
 use mathlib.Core.Path.{_≡_, refl, sym, subst}
 use mathlib.Core.Logic.{inl, inr}
-use mathlib.Core.Bool.{Bool, true, false, cond, not, _&&_, true≢false}
+use mathlib.Core.Bool.{Bool, true, false, not, _&&_, true≢false}
 use mathlib.Core.List.{List, [], _∷_}
 use Prim.Native.Nat.{ℕ}
 use lib.Dec.{T}
-use lib.Ieee.{Float, fits, lt, eq}
+use lib.Ieee.{Float, lt}
 use lib.Ieee.Scale.{finite}
 use Rattle.exact.specs.Value.{double}
-use Rattle.float.specs.Decimal.{rounded}
-use Rattle.float.specs.Sign.{nought, sameSign}
 use Rattle.search.specs.Run.{last}
 use Rattle.search.specs.Bisection.{widthOf}
 use Rattle.search.specs.Decision.{Row, _⇒_, decided, None}
-use Rattle.search.specs.Search.{refused, emptyRow, endRows, closing, searched, ends, run, brackets, between}
-use Rattle.search.specs.Demand.{Start, Signed, Nested, reported, Told, Owes, SearchOwes}
+use Rattle.search.specs.Search.{emptyRow, endRows, closing, searched, ends, run, brackets, between}
+use Rattle.search.specs.Demand.{Start, Signed, Nested, reported, Told, Owes, Part, SearchOwes}
 use Rattle.search.specs.declared.bracket.Bracket.{Bracket}
 use Rattle.search.specs.declared.bracket.Outcome.{Outcome}
 use Rattle.search.specs.declared.bracket.Outcome.the-variants.{ExactEnd, SmallResidual, Narrow, Refused}
 use Rattle.search.specs.declared.bracket.Opening.the-variants.{Open}
 use Rattle.search.specs.declared.bisection.Width.{Width}
-use Rattle.search.specs.declared.bisection.Width.the-variants.{Millionth}
 use Rattle.search.specs.declared.method.Method.{Method}
 use Rattle.search.specs.declared.method.Method.the-variants.{ByBisection, ByBrent}
 use Rattle.search.proofs.Residuals.{of-true, no-zero, unlike-signs}
-use Rattle.search.proofs.BisectionRuns.{bisection-owes, bisection-nested, bisection-reports, bisection-each}
+use Rattle.search.proofs.BisectionRuns.{bisection-owes, bisection-nested, bisection-reports, bisection-each, bisection-part}
+use Rattle.search.proofs.Narrow.{rule-double}
 use Rattle.search.proofs.BrentRuns.{zbrent-owes, zbrent-nested, zbrent-reports, zbrent-each}
 
 -- ---- the list, as the code goes through it
@@ -40,12 +38,17 @@ pub undecided : {A : Type 0} (rows : List (Row A)) (rest : A) → None rows → 
 undecided [] rest h = refl
 undecided ((test ⇒ a) ∷ rows) rest (t, h) = rw t (undecided rows rest h)
 
--- ---- a run, by its name
--- what a named rule asks of a bracket of doubles is a double
-rule-double : (rule : Width) (b : Bracket) → T (double (b .x1)) → T (double (b .x2)) → T (double (widthOf rule b))
-unfolding widthOf rounded fits
-rule-double Millionth b p q = tt
+-- what each row gives where it holds, and what follows where none does, have P: so has what is decided
+abbrev Gives : {A : Type 0} → (A → Type 0) → List (Row A) → Type 0
+Gives P [] = Prim.Unit {0}
+Gives P ((test ⇒ a) ∷ rows) = (test ≡ true → P a) × Gives P rows
 
+pub decides : {A : Type 0} (P : A → Type 0) (rows : List (Row A)) (rest : A) → Gives P rows → (None rows → P rest) → P (decided rows rest)
+decides P [] rest given h = h tt
+decides P ((true ⇒ a) ∷ rows) rest given h = given .0 refl
+decides P ((false ⇒ a) ∷ rows) rest given h = decides P rows rest (given .1) (λ none. h (refl, none))
+
+-- ---- a run, by its name
 run-nested : (m : Method) (f : Float → Float) (s : Bracket) → Start f s → (limit : ℕ) → Nested f (brackets m f s limit)
 unfolding brackets
 run-nested (ByBisection rule) f s g limit = bisection-nested (widthOf rule) f s g limit
@@ -111,13 +114,12 @@ module _ (f : Float → Float) (low high : Float) (p : T (double low)) (q : T (d
   -- the outcome
   pub between-owes : (m : Method) (limit : ℕ) → SearchOwes m f s (between m f low high limit)
   unfolding between
-  between-owes m limit = pick (not (lt low high)) refl (not (finite (f low) && finite (f high))) refl (eq (f low) nought) refl (eq (f high) nought) refl (sameSign (f low) (f high)) refl
-    where
-      pick : (a : Bool) → not (lt low high) ≡ a → (b : Bool) → not (finite (f low) && finite (f high)) ≡ b → (c : Bool) → eq (f low) nought ≡ c → (d : Bool) → eq (f high) nought ≡ d → (e : Bool) → sameSign (f low) (f high) ≡ e
-          → SearchOwes m f s (cond a (refused 5) (cond b (Refused 6 nought 0 s) (cond c (ExactEnd low s) (cond d (ExactEnd high s) (cond e (refused 7) (run m f s limit))))))
-      pick true h b k c l d t e u = inl refl
-      pick false h true k c l d t e u = inr (inr (inl (refl, refl)))
-      pick false h false k true l d t e u = (inl refl, l, refl)
-      pick false h false k false l true t e u = (inr refl, t, refl)
-      pick false h false k false l false t true u = inr (inl refl)
-      pick false h false k false l false t false u = ran m f s (run m f s limit) (run-owes m f s (starts (h, (k, (l, (t, (u, tt)))))) limit)
+  between-owes m limit =
+      decides (SearchOwes m f s) (emptyRow low high ∷ endRows s) (run m f s limit)
+      ((λ h. inl refl), ((λ h. inr (inr (inl (refl, refl)))), ((λ zero. (inl refl, zero, refl)), ((λ zero. (inr refl, zero, refl)), ((λ h. inr (inl refl)), tt)))))
+      (λ none. ran m f s (run m f s limit) (run-owes m f s (starts none) limit))
+
+  -- by bisection
+  pub between-part : (rule : Width) → None (emptyRow low high ∷ endRows s) → (limit : ℕ) → Part rule (run (ByBisection rule) f s limit)
+  unfolding run
+  between-part rule none limit = bisection-part rule f s (starts none) limit

@@ -4,7 +4,7 @@ use mathlib.Core.Bool.{Bool, cond, _||_}
 use mathlib.Core.List.{List}
 use lib.Ieee.{Float, lt}
 use lib.Ieee.Scale.{finite}
-use Rattle.exact.specs.Operations.{_⊖_}
+use Rattle.exact.specs.Operations.{_⊖_, _⊗_}
 use Rattle.exact.specs.Middle.{middle}
 use Rattle.float.specs.Decimal.{−_, number, rounded}
 use Rattle.float.specs.Sign.{nought, magnitude, sameSign}
@@ -13,7 +13,7 @@ use Rattle.search.specs.declared.bracket.Bracket.{Bracket}
 use Rattle.search.specs.declared.bracket.Outcome.{Outcome}
 use Rattle.search.specs.declared.bracket.Outcome.the-variants.{SmallResidual, Narrow, Refused}
 use Rattle.search.specs.declared.bisection.Width.{Width}
-use Rattle.search.specs.declared.bisection.Width.the-variants.{Millionth}
+use Rattle.search.specs.declared.bisection.Width.the-variants.{Millionth, MillionthOfUpper}
 use Rattle.search.specs.declared.bisection.Turn.{Turn}
 use Rattle.search.specs.declared.bisection.Turn.the-variants.{Done, Next}
 
@@ -36,9 +36,14 @@ step b r =
     (record { x1 = middleOf b; x2 = b .x2; r1 = r; r2 = b .r2 })
     (record { x1 = b .x1; x2 = middleOf b; r1 = b .r1; r2 = r })
 
--- the narrow rule by its name: the width below which a bracket is narrow
+-- 1.0e-6
+abbrev pub millionth : Float
+millionth = rounded (number 1 (− 6))
+
+-- the narrow rule by its name: the width below which a bracket is narrow, 1.0e-6 or 1.0e-6 times its upper end, as rounded
 unfoldable pub widthOf : Width → Bracket → Float
-widthOf Millionth b = rounded (number 1 (− 6))
+widthOf Millionth b = millionth
+widthOf MillionthOfUpper b = millionth ⊗ b .x2
 
 -- the width before the step
 unfoldable pub narrow : (Bracket → Float) → Bracket → Bool

@@ -7,7 +7,7 @@ use mathlib.Core.Bool.{true}
 use mathlib.Core.List.{List, [], _∷_}
 use lib.Dec.{T}
 use lib.Ieee.{Float, lt, le, eq}
-use Rattle.exact.specs.Value.{inUnits, double}
+use Rattle.exact.specs.Value.{unit, inUnits, double}
 use Rattle.exact.specs.Rounding.{distance}
 use Rattle.float.specs.Sign.{nought, magnitude}
 use Rattle.search.specs.Bisection.{small, widthOf}
@@ -15,6 +15,8 @@ use Rattle.search.specs.Brent.{tolerance}
 use Rattle.search.specs.Run.{last, Every}
 use Rattle.search.specs.Search.{run, brackets}
 use Rattle.search.specs.declared.bracket.Bracket.{Bracket}
+use Rattle.search.specs.declared.bisection.Width.{Width}
+use Rattle.search.specs.declared.bisection.Width.the-variants.{Millionth, MillionthOfUpper}
 use Rattle.search.specs.declared.method.Method.{Method}
 use Rattle.search.specs.declared.method.Method.the-variants.{ByBisection, ByBrent}
 use Rattle.search.specs.declared.bracket.Outcome.{Outcome}
@@ -97,6 +99,17 @@ RunOwes Small near f s (ExactEnd v b) = ⊥
 RunOwes Small near f s (SmallResidual v n b) = Small (f v) × Lies s b v
 RunOwes Small near f s (Narrow v n b) = Enclosed f s b v (near b v)
 RunOwes Small near f s (Refused number v n b) = Stopped number b s
+
+-- of a narrow outcome by bisection: its bracket, of doubles, is exactly narrower than a millionth of the whole that its rule names, 1 or the upper end
+abbrev pub whole : Width → Bracket → ℕ
+whole Millionth b = unit
+whole MillionthOfUpper b = inUnits (b .x2)
+
+abbrev pub Part : Width → Outcome → Type 0
+Part rule (ExactEnd v b) = Prim.Unit {0}
+Part rule (SmallResidual v n b) = Prim.Unit {0}
+Part rule (Narrow v n b) = distance (b .x1) (b .x2) * 1000000 < whole rule b
+Part rule (Refused number v n b) = Prim.Unit {0}
 
 -- by the search: bisection, a residual under 1.0e-8 in magnitude; Brent, a zero
 abbrev pub Small : Method → Float → Type 0

@@ -11,6 +11,8 @@ use float::sign::same_sign;
 pub enum Width {
     // 1.0e-6
     Millionth,
+    // 1.0e-6 times the upper end
+    MillionthOfUpper,
 }
 
 // What one turn comes to: an end of the search, or the next bracket.
@@ -64,6 +66,7 @@ impl Bracket {
     {
         match rule {
             Width::Millionth => 1.0e-6,
+            Width::MillionthOfUpper => 1.0e-6 * self.x2,
         }
     }
 

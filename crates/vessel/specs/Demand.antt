@@ -1,11 +1,16 @@
 -- Demand 3 at the level of the calls, with no premise: what the columns of a search's answer owe, and what the brackets keep that they report. Distances are exact, in units of 2 ^ -1074.
-use Prim.Native.Nat.{ℕ, _≤_}
+use Prim.Native.Nat.{ℕ, _*_, _≤_, _<_}
 use mathlib.Core.Path.{_≡_}
 use mathlib.Core.Logic.{_⊎_}
 use mathlib.Core.List.{List}
+use lib.Ieee.{Float}
+use Rattle.exact.specs.Operations.{_⊗_}
+use Rattle.exact.specs.Value.{unit, inUnits}
+use Rattle.exact.specs.Rounding.{distance}
 use Rattle.search.specs.Run.{last, Every}
+use Rattle.search.specs.Bisection.{millionth}
 use Rattle.search.specs.Search.{ends, brackets}
-use Rattle.search.specs.Demand.{Zero, Within, Nested, Lies, Enclosed, Small, near}
+use Rattle.search.specs.Demand.{Opposite, Zero, Within, Nested, Lies, Enclosed, Small, near}
 use Rattle.search.specs.declared.bracket.Bracket.{Bracket}
 use Rattle.r4.specs.Ends.{place}
 use Rattle.pairs.specs.Residual.{rowOf, residual}
@@ -36,6 +41,21 @@ OwesBy narrow q c = Enclosed (residual q) (start q) (reported q c) (c .value) (n
 
 abbrev pub Owes : Question → Columns → Type 0
 Owes q c = OwesBy (c .reason) q c
+
+-- written out for bisection, of a narrow answer: the ends in its columns, which have opposite residuals, both lie exactly nearer to its value than w, and to each other than a millionth of n units
+pub record Nearer (q : Question) (w : Float) (n : ℕ) (c : Columns) : Type 0 where
+  pub signs : Opposite (residual q (c .lower)) (residual q (c .upper))
+  pub near-lower : distance (c .value) (c .lower) < inUnits w
+  pub near-upper : distance (c .value) (c .upper) < inUnits w
+  pub part : distance (c .lower) (c .upper) * 1000000 < n
+
+-- in region 1 (p,v): than 1.0e-6, and than a millionth of 1
+abbrev pub PvNearer : Question → Columns → Type 0
+PvNearer q c = Nearer q millionth unit c
+
+-- in region 2 (T,v), where p may be low: than 1.0e-6 times the upper end that is reported, as rounded, and than a millionth of that end
+abbrev pub TvNearer : Question → Columns → Type 0
+TvNearer q c = Nearer q (millionth ⊗ c .upper) (inUnits (c .upper)) c
 
 -- ---- the brackets that a search goes through, the starting one first
 abbrev pub bracketsOf : Question → ℕ → List Bracket
