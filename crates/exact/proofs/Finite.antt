@@ -56,6 +56,10 @@ mul-finite (fin s m e) (fin t n d) b p q B h =
         regroup : (a b c d : ℕ) → a * b * (c * d) ≡ a * c * (b * d)
         regroup a b c d = omega arith
 
+-- a part of x: c is at most 1 in size
+pub part-finite : (c x : Float) → T (double c) → T (double x) → inUnits c ≤ unit → T (finite (mul binary64 c x))
+part-finite c x p d h = mul-finite c x x p d d (le-trans (mul-le-mul-right (inUnits x) h) (le-of-eq (mul-comm unit (inUnits x))))
+
 -- ---- a sum or a difference whose exact value is at most a double c in size
 sum-finite : (s : Bool) (a : ℕ) (t : Bool) (b W X Y : ℕ) (c : Float) → T (double c) → 0 < W → a * unit ≡ X * W → b * unit ≡ Y * W
     → apart (unless s X + unless t Y) (when s X + when t Y) ≤ inUnits c → T (finite (sum binary64 s a t b W))

@@ -2,7 +2,7 @@
 use mathlib.Core.Path.{_≡_, refl, sym, ap, _∙_, subst}
 use mathlib.Core.Logic.{_⊎_, inl, inr}
 use Prim.Native.Nat.{ℕ, zero, suc, _+_, _-_, _*_, _/_, _^_, _≤_, _<_}
-use native.Mathlib.Nat.{mul-sub, le-trans, le-of-eq, not-le-of-lt, mul-one, mul-assoc, mul-le-mul-left, pow-suc}
+use native.Mathlib.Nat.{le-trans, le-of-eq, not-le-of-lt, mul-one, mul-assoc, mul-le-mul-left, pow-suc}
 use native.Mathlib.Omega.{arith}
 use lib.Dec.{T, ltb, ltb→lt}
 use lib.Pow.{pow-pos}
@@ -11,15 +11,15 @@ use lib.Ieee.Digits.{size-le}
 use lib.Ieee.Order.{drop}
 use Rattle.exact.specs.Value.{unit, inUnits, plus, minus, double, AtMost}
 use lib.Ieee.Scale.{finite}
-use Rattle.exact.specs.Rounding.{grid, Rounds, apart}
+use Rattle.exact.specs.Rounding.{grid, Rounds}
 use Rattle.exact.specs.Middle.{half, Ends, Between, Halfway, middle}
 use Rattle.exact.proofs.Grid.{grid-ulp, grid-exact, grid-mono, grid-same, grid-small, grid-zero, either, other-way, grid-err-whole}
-use Rattle.exact.proofs.Value.{unit-pos, Rep, units-rep, plus-rep, minus-rep, one-sided, grid-rep, units-of-plus, units-apart, positive-minus, positive-double}
+use Rattle.exact.proofs.Value.{unit-pos, Rep, units-rep, plus-rep, minus-rep, one-sided, grid-rep, units-of-plus, positive-minus, positive-double}
 use Rattle.exact.proofs.Order.{le→exact}
 use Rattle.exact.proofs.Operations.{add-rounds, mul-rounds}
-use Rattle.exact.proofs.Finite.{mul-finite}
+use Rattle.exact.proofs.Finite.{part-finite}
 use Rattle.exact.specs.Operations.{_⊕_, _⊗_}
-use Rattle.exact.proofs.Rounding.{rounds-le, rounds-ge, rounds-units}
+use Rattle.exact.proofs.Rounding.{rounds-le, rounds-ge, mul-units}
 
 -- ---- on the grid
 -- twice a number of at most 53 digits has at most 53 digits
@@ -84,8 +84,11 @@ half-units = unfold plus inUnits unit in refl
 half-minus : minus half ≡ 0
 half-minus = unfold minus in refl
 
+half-whole : inUnits half * 2 ≡ unit
+half-whole = ap (λ (a : ℕ). a * 2) (units-of-plus half half-minus) ∙ half-units
+
 half-finite : (s : Float) → T (double s) → T (finite (half ⊗ s))
-half-finite s d = mul-finite half s s half-double d d (rw (units-of-plus half half-minus, ← half-units) (omega arith))
+half-finite s d = part-finite half s half-double d (rw (← half-whole) (omega arith))
 
 half-rounds : (s : Float) → T (double s) → Rounds (half ⊗ s) (plus half * plus s + minus half * minus s) (plus half * minus s + minus half * plus s) unit
 half-rounds s d = mul-rounds half s half-double d (half-finite s d)
@@ -97,13 +100,7 @@ half-sign s d z = half-rounds s d .minus-is ∙ ap (λ (a : ℕ). grid a unit) (
     shape H o P n f k = rw (f, k) (omega arith)
 
 pub half-grid : (s : Float) → T (double s) → inUnits (half ⊗ s) ≡ grid (inUnits s) 2
-half-grid s d =
-    rounds-units (half ⊗ s) (plus half * plus s + minus half * minus s) (plus half * minus s + minus half * plus s) unit (half-rounds s d) unit-pos
-    ∙ grid-same (apart (plus half * plus s + minus half * minus s) (plus half * minus s + minus half * plus s)) unit (inUnits s) 2 unit-pos (pow-pos 1)
-    (shape (plus half) (minus half) (plus s) (minus s) unit half-units half-minus ∙ ap (λ (a : ℕ). a * unit) (sym (units-apart s)))
-  where
-    shape : (H o P n u : ℕ) → H * 2 ≡ u → o ≡ 0 → apart (H * P + o * n) (H * n + o * P) * 2 ≡ apart P n * u
-    shape H o P n u e f = rw (f, ← e) (omega (arith, mul-sub H P n, mul-sub H n P))
+half-grid s d = mul-units half s half-double d (half-finite s d) ∙ grid-same (inUnits half * inUnits s) unit (inUnits s) 2 unit-pos (pow-pos 1) (rw (← half-whole) (omega arith))
 
 -- ---- the middle of two doubles in order, whatever their signs
 -- 2 (a - b) ≤ P - N says the same of P - N rounded, where a and b have at most 53 digits and one of them is 0

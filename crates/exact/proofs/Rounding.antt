@@ -1,6 +1,6 @@
--- What `Rounds` gives, for every operation alike: the order of exact results is kept, and the result is within half a unit in the last place of the exact result. Assumes nothing.
+-- What `Rounds` gives, for every operation alike: the order of exact results is kept, the size of a result is the size of the exact one, rounded. Assumes nothing.
 use mathlib.Core.Path.{_≡_, sym, ap, _∙_, subst}
-use mathlib.Core.Logic.{inl, inr}
+use mathlib.Core.Logic.{_⊎_, inl, inr}
 use mathlib.Core.Bool.{Bool, true, false}
 use Prim.Native.Nat.{ℕ, _+_, _-_, _*_, _≤_, _<_}
 use native.Mathlib.Nat.{le-of-lt, mul-le-mul-right, add-le-add}
@@ -8,10 +8,13 @@ use native.Mathlib.Omega.{arith}
 use lib.Dec.{T}
 use lib.Pow.{pow-pos}
 use lib.Ieee.{Float}
-use Rattle.exact.specs.Value.{inUnits, negative, when, unless, plus, minus, double, AtMost}
+use Rattle.exact.specs.Value.{unit, inUnits, negative, when, unless, plus, minus, double, AtMost}
+use lib.Ieee.Scale.{finite}
+use Rattle.exact.specs.Operations.{_⊗_}
 use Rattle.exact.specs.Rounding.{grid, Rounds, apart}
 use Rattle.exact.proofs.Grid.{grid-mono, grid-zero, either}
-use Rattle.exact.proofs.Value.{units-rep, grid-rep, units-of-plus, units-of-minus}
+use Rattle.exact.proofs.Value.{unit-pos, units-rep, grid-rep, one-sided, units-of-plus, units-of-minus}
+use Rattle.exact.proofs.Operations.{mul-rounds}
 
 -- ---- a double rounds to itself
 pub self-rounds : (y : Float) → T (double y) → Rounds y (plus y) (minus y) 1
@@ -79,3 +82,21 @@ rounds-units r p n c R C = elim (either n p) [
       let s : n - p ≡ apart p n = omega arith in
       units-of-minus r (R .plus-is ∙ ap (λ (a : ℕ). grid a c) z ∙ grid-zero c C) ∙ R .minus-is ∙ ap (λ (a : ℕ). grid a c) s
 ]
+
+-- of a product: the product of the sizes, rounded
+pub mul-units : (x y : Float) → T (double x) → T (double y) → T (finite (x ⊗ y)) → inUnits (x ⊗ y) ≡ grid (inUnits x * inUnits y) unit
+mul-units x y p q f =
+    rounds-units (x ⊗ y) (plus x * plus y + minus x * minus y) (plus x * minus y + minus x * plus y) unit (mul-rounds x y p q f) unit-pos
+    ∙ ap (λ (a : ℕ). grid a unit) (shape (plus x) (minus x) (plus y) (minus y) (inUnits x) (inUnits y) (sides x) (sides y))
+  where
+    Sides : ℕ → ℕ → ℕ → Type 0
+    Sides a b n = ((a ≡ n) × (b ≡ 0)) ⊎ ((a ≡ 0) × (b ≡ n))
+
+    sides : (x : Float) → Sides (plus x) (minus x) (inUnits x)
+    sides x = elim (one-sided x) [ inl z ↦ inr (z, sym (units-of-minus x z)) | inr z ↦ inl (sym (units-of-plus x z), z) ]
+
+    shape : (a b c d m n : ℕ) → Sides a b m → Sides c d n → apart (a * c + b * d) (a * d + b * c) ≡ m * n
+    shape a b c d m n (inl (e, f)) (inl (g, h)) = rw (e, f, g, h) (omega arith)
+    shape a b c d m n (inl (e, f)) (inr (g, h)) = rw (e, f, g, h) (omega arith)
+    shape a b c d m n (inr (e, f)) (inl (g, h)) = rw (e, f, g, h) (omega arith)
+    shape a b c d m n (inr (e, f)) (inr (g, h)) = rw (e, f, g, h) (omega arith)

@@ -1,23 +1,23 @@
 -- The narrow rules in exact values: the double 1.0e-6 is at most a millionth, its rounded product with a double is a double and at most a millionth of that, rounded once; so a bracket that is narrow
 -- by the product is exactly narrower than a millionth of its upper end. Assumes nothing.
-use mathlib.Core.Path.{_≡_, refl, sym}
-use Prim.Native.Nat.{ℕ, _+_, _*_, _≤_, _<_}
+use mathlib.Core.Path.{_≡_, sym}
+use Prim.Native.Nat.{_*_, _≤_, _<_}
 use mathlib.Core.Bool.{true}
-use native.Mathlib.Nat.{le-trans, le-of-eq, lt-of-not-le, not-le-of-lt, mul-one, mul-comm, mul-sub, mul-le-mul-right}
+use native.Mathlib.Nat.{le-trans, le-of-eq, lt-of-not-le, not-le-of-lt, mul-one, mul-le-mul-right}
 use native.Mathlib.Omega.{arith}
 use lib.Dec.{T, lit≤, lit<}
 use lib.Pow.{pow-pos}
 use lib.Ieee.{Float, lt, le, eq, fits}
 use lib.Ieee.Scale.{finite}
 use Rattle.exact.specs.Operations.{_⊖_, _⊗_}
-use Rattle.exact.specs.Value.{unit, inUnits, plus, minus, double}
-use Rattle.exact.specs.Rounding.{grid, apart, distance, Rounds}
+use Rattle.exact.specs.Value.{unit, inUnits, double}
+use Rattle.exact.specs.Rounding.{grid, distance}
 use Rattle.exact.proofs.Grid.{grid-mono}
-use Rattle.exact.proofs.Value.{unit-pos, units-apart, units-of-plus}
+use Rattle.exact.proofs.Value.{unit-pos}
 use Rattle.exact.proofs.Order.{or-l}
 use Rattle.exact.proofs.Operations.{sub-rounds, mul-rounds}
-use Rattle.exact.proofs.Rounding.{rounds-units}
-use Rattle.exact.proofs.Finite.{mul-finite}
+use Rattle.exact.proofs.Rounding.{mul-units}
+use Rattle.exact.proofs.Finite.{part-finite}
 use Rattle.exact.proofs.Width.{width-rounds, narrow as narrow-exact}
 use Rattle.float.specs.Sign.{magnitude}
 use Rattle.float.specs.Decimal.{rounded}
@@ -37,37 +37,20 @@ millionth-double : T (double millionth)
 unfolding rounded fits
 millionth-double = tt
 
-millionth-minus : minus millionth ≡ 0
-unfolding rounded minus
-millionth-minus = refl
-
 module _ (x : Float) (d : T (double x)) where
-  -- the product is no larger than x, so it does not overflow
   product-finite : T (finite (millionth ⊗ x))
-  product-finite = mul-finite millionth x x millionth-double d d (bound (inUnits millionth) (inUnits x) unit at-most-a-millionth)
-    where
-      bound : (m x u : ℕ) → m * 1000000 ≤ u → m * x ≤ x * u
-      bound m x u h = let l : m ≤ u = omega arith in le-trans (mul-le-mul-right x l) (le-of-eq (mul-comm u x))
-
-  product-rounds : Rounds (millionth ⊗ x) (plus millionth * plus x + minus millionth * minus x) (plus millionth * minus x + minus millionth * plus x) unit
-  product-rounds = mul-rounds millionth x millionth-double d product-finite
+  product-finite = let h = at-most-a-millionth in part-finite millionth x millionth-double d (omega (arith, h))
 
   product-at-most : inUnits (millionth ⊗ x) ≤ grid (inUnits x) 1000000
   product-at-most =
-      le-trans (le-of-eq (rounds-units (millionth ⊗ x) _ _ unit product-rounds unit-pos))
-      (grid-mono (apart (plus millionth * plus x + minus millionth * minus x) (plus millionth * minus x + minus millionth * plus x)) unit (inUnits x) 1000000 unit-pos (lit< tt)
-      (rw (units-apart x) (shape (plus millionth) (minus millionth) (plus x) (minus x) unit (rw (← (units-of-plus millionth millionth-minus)) at-most-a-millionth) millionth-minus)))
-    where
-      shape : (m o P n u : ℕ) → m * 1000000 ≤ u → o ≡ 0 → apart (m * P + o * n) (m * n + o * P) * 1000000 ≤ apart P n * u
-      shape m o P n u h z =
-          let l = mul-le-mul-right (apart P n) h in
-          rw z (omega (arith, l, mul-sub m P n, mul-sub m n P))
+      let l = mul-le-mul-right (inUnits x) at-most-a-millionth in
+      le-trans (le-of-eq (mul-units millionth x millionth-double d product-finite)) (grid-mono (inUnits millionth * inUnits x) unit (inUnits x) 1000000 unit-pos (lit< tt) (omega (arith, l)))
 
 -- what a named rule asks of a bracket of doubles is a double
 pub rule-double : (rule : Width) (b : Bracket) → T (double (b .x1)) → T (double (b .x2)) → T (double (widthOf rule b))
 unfolding widthOf
 rule-double Millionth b p q = millionth-double
-rule-double MillionthOfUpper b p q = product-rounds (b .x2) q .is-double
+rule-double MillionthOfUpper b p q = mul-rounds millionth (b .x2) millionth-double q (product-finite (b .x2) q) .is-double
 
 -- ---- a narrow bracket
 module _ (width : Bracket → Float) (b : Bracket) (p : T (double (b .x1))) (q : T (double (b .x2))) (d : T (double (width b))) (t : narrow width b ≡ true) where

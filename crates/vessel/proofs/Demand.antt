@@ -1,5 +1,5 @@
 -- Demand 3 for each call, with no premise: its brackets are nested with opposite signs and are the ones that its answers report, and the columns of its answer owe what `Owes` says. Once over all
--- rows, whose ends are doubles or missing, then by the name of each call. Assumes nothing.
+-- rows, whose ends are doubles or missing, then by the name of each call; and the narrow answers of the two bisections written out. Assumes nothing.
 use Prim.Native.Nat.{ℕ, _*_, _≤_, _<_}
 use native.Mathlib.Nat.{le-refl, le-trans}
 use mathlib.Core.Path.{_≡_, refl, sym, ap, _∙_, subst}
