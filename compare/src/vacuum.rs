@@ -113,9 +113,8 @@ impl State {
         let v = search.at(t, p);
         let after = search.ours(t, v, LIMIT);
         let (low, high) = (search.ends)(t);
-        let residual = |p: f64| (v - search.at(t, p)) / v;
-        // neither has a volume that is not above zero
-        let before = if after.number == 4 { Run::without_bracket(4) } else { bisection(low, high, residual, LIMIT as usize, 1.0e-8, |_| CRATES_WIDTH) };
+        // the test copy has no checks of its own
+        let before = if after.number == 4 { Run::without_bracket(4) } else { bisection(low, high, |x| residual(search, t, v, x), LIMIT as usize, 1.0e-8, |_| CRATES_WIDTH) };
         State { t, p, v, before, after }
     }
 
@@ -123,17 +122,14 @@ impl State {
         (value - self.p).abs() / self.p
     }
 
-    fn residual(&self, search: &Search, p: f64) -> f64 {
-        (self.v - search.at(self.t, p)) / self.v
-    }
-
     /// What is wrong with the two answers, if anything: before must be the crate's own answer, after must hold what its reason says.
     fn fault(&self, search: &Search) -> Option<String> {
         let Record { number, reason, value, lower, upper, .. } = self.after;
+        let at = |x: f64| residual(search, self.t, self.v, x);
         let good = match (number, reason) {
-            (0, NARROW) => self.residual(search, lower) * self.residual(search, upper) < 0.0 && lower <= value && value <= upper && within_a_millionth(lower, upper),
-            (0, SMALL_RESIDUAL) => self.residual(search, value).abs() < 1.0e-8,
-            (0, EXACT_END) => self.residual(search, value) == 0.0,
+            (0, NARROW) => (at(lower) < 0.0) != (at(upper) < 0.0) && lower <= value && value <= upper && within_a_millionth(lower, upper),
+            (0, SMALL_RESIDUAL) => at(value).abs() < 1.0e-8,
+            (0, EXACT_END) => at(value) == 0.0,
             _ => self.before.number == number,
         };
         let crates = panic::catch_unwind(|| (search.rusts)(self.t, self.v)).ok();
@@ -146,6 +142,11 @@ impl State {
         let State { t, p, before, after, .. } = self;
         (!good || !the_crates).then(|| format!("T = {t:?}, p = {p:?}: before {before:?}, the crate {crates:?}, after {after:?}"))
     }
+}
+
+/// By the original's own volume.
+fn residual(search: &Search, t: f64, v: f64, p: f64) -> f64 {
+    (v - search.at(t, p)) / v
 }
 
 /// Whether 10^6 * (upper - lower) < upper, exactly: both as whole numbers of the lower end's last place.

@@ -1,5 +1,5 @@
 -- The eight pairs of document 01, one row each: its region, the range of the input that is fixed (of pressures or of temperatures), whether the target is a volume, "Brackets" (the lower and the upper
--- end, from the fixed input), the formula that is found, and the search with its narrow rule. The Rust has them as pv2T_reg1, Tv2p_reg1, Th2p_reg1, Ts2p_reg1 and pv2T_reg2 to Ts2p_reg2.
+-- end, from the fixed input), the formula that is found, and the search with its narrow rule, of Tv2 the one of document 02, §4. The Rust has them as pv2T_reg1, Tv2p_reg1, Th2p_reg1, Ts2p_reg1 and pv2T_reg2 to Ts2p_reg2.
 use mathlib.Core.Bool.{Bool, true, false}
 use lib.Ieee.{Float}
 use Rattle.common.specs.Constant.{T-least, T-1073, p-least, p-most}

@@ -40,7 +40,7 @@ step b r =
 abbrev pub millionth : Float
 millionth = rounded (number 1 (− 6))
 
--- the narrow rule by its name: the width below which a bracket is narrow, 1.0e-6 or 1.0e-6 times its upper end, as rounded
+-- the narrow rule by its name: the width below which a bracket is narrow, 1.0e-6 (document 01) or 1.0e-6 times its upper end, as rounded (document 02, §4)
 unfoldable pub widthOf : Width → Bracket → Float
 widthOf Millionth b = millionth
 widthOf MillionthOfUpper b = millionth ⊗ b .x2
