@@ -15,7 +15,7 @@ extern "C" {
 #endif
 
 /* The version of Climboat, and what it follows. */
-#define CLIMBOAT_VERSION "0.1.0"
+#define CLIMBOAT_VERSION "0.2.0"
 #define CLIMBOAT_FOLLOWS "seuif97 2.3.8 and IAPWS R7-97(2012)"
 
 /* The region, always named by the caller; any other number is refused by CLIMBOAT_NOTHING_NAMED. */

@@ -130,7 +130,7 @@ impl Search {
         let inputs = self.written(input);
         let kind = kinds.entry(self.kind(input, ours, answer)).or_default();
         kind.meet(counted, ours, answer, input.target, &inputs);
-        if ours.number == 0 && input.of.is_some_and(|x| (ours.value - x).abs() > 1.0e-3 * x + self.reach(x, CRATES_WIDTH)) {
+        if ours.number == 0 && input.of.is_some_and(|x| (ours.value - x).abs() > 1.0e-3 * x + self.our_reach(&ours)) {
             elsewhere.meet(counted, ours, answer, input.target, &inputs);
         }
     }
@@ -164,7 +164,7 @@ impl Search {
             (number @ 1..=7, Some(y)) if y == -9999.0 || !y.is_finite() => format!("refused by {number}, the original gives -9999 or no finite value"),
             (number @ 1..=4, Some(_)) => format!("refused by {number}, the original answers{from}"),
             (5, Some(_)) if high - low <= AT_END => "refused by 5, the original answers".into(),
-            (6, Some(_)) if [ours.lower, ours.upper].iter().any(|&x| !self.residual(input, x).is_finite()) => "refused by 6, the original answers".into(),
+            (6, Some(_)) if [ours.lower, ours.upper].iter().any(|&x| !self.residual(input.fixed, input.target, x).is_finite()) => "refused by 6, the original answers".into(),
             (7, Some(y)) if self.at_end(input.fixed, input.of.unwrap_or(y)) => "refused by 7, the original answers: at an end".into(),
             _ => UNEXPLAINED.into(),
         }
@@ -173,7 +173,7 @@ impl Search {
     /// The kind of two answers. Ours must satisfy the reason that it gives.
     fn both(&self, input: &Input, ours: Record, y: f64) -> &'static str {
         let x = ours.value;
-        let (reach, theirs) = (self.reach(x, self.width.map_or(0.0, |width| width(ours.upper))), self.reach(y, CRATES_WIDTH));
+        let (reach, theirs) = (self.our_reach(&ours), self.reach(y, CRATES_WIDTH));
         if !self.stopped(input, x, ours.reason, reach) {
             UNEXPLAINED
         } else if same(x, y) {
@@ -208,22 +208,20 @@ impl Search {
         }
     }
 
-    /// By the original's own property.
-    fn residual(&self, input: &Input, x: f64) -> f64 {
-        let found = self.at(input.fixed, x);
-        if self.bisection() {
-            (input.target - found) / input.target
-        } else {
-            input.target - found
-        }
-    }
-
     /// How far from a narrow answer its root can lie: half of bisection's width, and both ends of Brent's bracket.
     fn reach(&self, x: f64, width: f64) -> f64 {
         if self.bisection() {
             0.5 * width
         } else {
             2.0 * (2.0 * 3.0e-8 * x.abs() + 0.5e-8)
+        }
+    }
+
+    /// Ours, by its own narrow rule; none for an exact end.
+    fn our_reach(&self, ours: &Record) -> f64 {
+        match ours.reason {
+            EXACT_END => 0.0,
+            _ => self.reach(ours.value, self.width.map_or(0.0, |width| width(ours.upper))),
         }
     }
 
@@ -234,10 +232,10 @@ impl Search {
     /// Whether the search may stop at x for the reason, by the original's own property. Narrow: the residual changes its sign within reach.
     fn stopped(&self, input: &Input, x: f64, reason: u32, reach: f64) -> bool {
         let (low, high) = (self.ends)(input.fixed);
-        let at = self.residual(input, x);
+        let at = self.residual(input.fixed, input.target, x);
         let zero = at.abs() <= self.apart();
         let changes = |z: f64| {
-            let there = self.residual(input, z.clamp(low, high));
+            let there = self.residual(input.fixed, input.target, z.clamp(low, high));
             at * there <= 0.0 || zero || there.abs() <= self.apart()
         };
         match reason {

@@ -1,4 +1,4 @@
-//! Climboat against Rust: `compare helpers` compares the float helpers, `compare equations` the equations with the original crate, `compare searches` the pair searches with its test copy and with itself, `compare doubles` any two doubles with the refusal table read a second time, `compare recorded` makes the answers that crates/replay keeps, `compare vacuum` searches region 2 (T,v) from a low vacuum upwards and makes a table of docs/DIFFERENCES.md, `compare timing` prints the tables of docs/SPEED.md.
+//! Climboat against Rust: `compare helpers` compares the float helpers, `compare equations` the equations with the original crate, `compare searches` the pair searches with its test copy and with itself, `compare doubles` any two doubles with the refusal table and the steps of bisection read a second time, `compare recorded` makes the answers that crates/replay keeps, `compare vacuum` searches region 2 (T,v) from a low vacuum upwards and makes a table of docs/DIFFERENCES.md, `compare timing` prints the tables of docs/SPEED.md.
 
 mod climboat;
 #[cfg(feature = "original")]

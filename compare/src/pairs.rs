@@ -91,6 +91,16 @@ impl Search {
         (self.property)(p, t)
     }
 
+    /// Document 01's residual at x, by the original's own property.
+    pub fn residual(&self, fixed: f64, target: f64, x: f64) -> f64 {
+        let found = self.at(fixed, x);
+        if self.bisection() {
+            (target - found) / target
+        } else {
+            target - found
+        }
+    }
+
     /// Whether the checks 1, 2, 3 and 4 let the inputs through.
     pub fn passes(&self, fixed: f64, target: f64) -> bool {
         let range = match (self.region, self.seeks_t()) {

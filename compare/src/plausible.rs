@@ -126,7 +126,7 @@ pub fn pair(draw: &mut Draw) -> (f64, f64) {
 pub fn limit(draw: &mut Draw) -> u32 {
     match draw.below(12) {
         n @ 0..=5 => [0, 1, 2, 5, 20, 20_001][n as usize],
-        6 => draw.below(40) as u32,
+        6 => draw.below(64) as u32,
         7 => (draw.bits() as u32) >> draw.below(32),
         _ => 20_000,
     }

@@ -7,7 +7,7 @@ use crate::tally::Tally;
 use copy::run::Run;
 use std::collections::BTreeMap;
 
-/// Under each an input is searched, and under one more, drawn from 3 to 30.
+/// Under each an input is searched, and under one more, drawn from 3 to 60.
 const LIMITS: [u32; 6] = [0, 1, 2, 5, 20, LIMIT];
 
 /// Targets of every size, whatever the state.
@@ -33,14 +33,14 @@ fn hold(search: &Search, seed: u64) -> bool {
     let mut tally = Tally::new(search.name);
     let mut counts = Counts::default();
     for &(fixed, target) in &inputs {
-        for limit in LIMITS.into_iter().chain([3 + draw.below(28) as u32]) {
+        for limit in LIMITS.into_iter().chain([3 + draw.below(58) as u32]) {
             let ours = search.ours(fixed, target, limit);
             let copys = (search.copys)(fixed, target, limit as i32);
             tally.check(agrees(search, fixed, ours, copys), || format!("{fixed:e}, {target:e}, limit {limit}: {ours:?}; the test copy {copys:?}"));
             counts.meet(copys);
         }
     }
-    tally.told(&format!(", bit for bit; {} inputs under the limits {LIMITS:?} and one from 3 to 30; {}", inputs.len(), counts.told()))
+    tally.told(&format!(", bit for bit; {} inputs under the limits {LIMITS:?} and one from 3 to 60; {}", inputs.len(), counts.told()))
 }
 
 /// Targets for an input that is fixed: past both ends of what is reached, in between, of every size, and on the cold side of the least volume.

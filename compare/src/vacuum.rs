@@ -114,7 +114,7 @@ impl State {
         let after = search.ours(t, v, LIMIT);
         let (low, high) = (search.ends)(t);
         // the test copy has no checks of its own
-        let before = if after.number == 4 { Run::without_bracket(4) } else { bisection(low, high, |x| residual(search, t, v, x), LIMIT as usize, 1.0e-8, |_| CRATES_WIDTH) };
+        let before = if after.number == 4 { Run::without_bracket(4) } else { bisection(low, high, |x| search.residual(t, v, x), LIMIT as usize, 1.0e-8, |_| CRATES_WIDTH) };
         State { t, p, v, before, after }
     }
 
@@ -125,7 +125,7 @@ impl State {
     /// What is wrong with the two answers, if anything: before must be the crate's own answer, after must hold what its reason says.
     fn fault(&self, search: &Search) -> Option<String> {
         let Record { number, reason, value, lower, upper, .. } = self.after;
-        let at = |x: f64| residual(search, self.t, self.v, x);
+        let at = |x: f64| search.residual(self.t, self.v, x);
         let good = match (number, reason) {
             (0, NARROW) => (at(lower) < 0.0) != (at(upper) < 0.0) && lower <= value && value <= upper && within_a_millionth(lower, upper),
             (0, SMALL_RESIDUAL) => at(value).abs() < 1.0e-8,
@@ -142,11 +142,6 @@ impl State {
         let State { t, p, before, after, .. } = self;
         (!good || !the_crates).then(|| format!("T = {t:?}, p = {p:?}: before {before:?}, the crate {crates:?}, after {after:?}"))
     }
-}
-
-/// By the original's own volume.
-fn residual(search: &Search, t: f64, v: f64, p: f64) -> f64 {
-    (v - search.at(t, p)) / v
 }
 
 /// Whether 10^6 * (upper - lower) < upper, exactly: both as whole numbers of the lower end's last place.

@@ -12,7 +12,7 @@ pub enum Reason {
     ExactEnd,
     /// The residual is below 1.0e-8 (bisection), or zero (Brent).
     SmallResidual,
-    /// The bracket has become narrow enough: less than 1.0e-6 K wide in region 1 (p,v), less than 1.0e-6 times its upper end in region 2 (T,v), within Brent's tolerance elsewhere.
+    /// The bracket has become narrow enough: less than 1.0e-6 K wide in region 1 (p,v), less than 1.0e-6 times its upper end in region 2 (T,v), half of it within Brent's tolerance elsewhere.
     Narrow,
 }
 

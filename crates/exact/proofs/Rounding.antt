@@ -1,4 +1,4 @@
--- What `Rounds` gives, for every operation alike: the order of exact results is kept, the size of a result is the size of the exact one, rounded. Assumes nothing.
+-- What `Rounds` gives, for every operation alike: the order of exact results is kept, and the size of a result is that of the exact one, rounded; of a product, the product of the sizes. Assumes nothing.
 use mathlib.Core.Path.{_≡_, sym, ap, _∙_, subst}
 use mathlib.Core.Logic.{_⊎_, inl, inr}
 use mathlib.Core.Bool.{Bool, true, false}

@@ -1,4 +1,4 @@
--- Demand 3 of bisection, for any residual function: the brackets of a run are nested with opposite residuals, an outcome reports the last of them, and is what demand 3 owes; by a named rule the bracket of a narrow one is exactly narrower than a millionth part. A turn is inverted once
+-- Demand 3 of bisection, for any residual function: its brackets are nested with opposite residuals, the last of them is reported, and an outcome is what demand 3 owes. A turn is inverted once
 -- (`rule-of`); a middle that is not outside has a sum that does not overflow, so it lies between the ends, and the sign rule keeps the residuals opposite. Assumes nothing.
 use mathlib.Core.Path.{_≡_, refl, ap, _∙_, subst}
 use mathlib.Core.Logic.{_⊎_, inl, inr}

@@ -100,7 +100,7 @@ RunOwes Small near f s (SmallResidual v n b) = Small (f v) × Lies s b v
 RunOwes Small near f s (Narrow v n b) = Enclosed f s b v (near b v)
 RunOwes Small near f s (Refused number v n b) = Stopped number b s
 
--- of a narrow outcome by bisection: its bracket, of doubles, is exactly narrower than a millionth of the whole that its rule names, 1 or the upper end
+-- of a narrow outcome by bisection: its bracket is exactly narrower than a millionth of the whole that its rule names, 1 or the upper end
 abbrev pub whole : Width → Bracket → ℕ
 whole Millionth b = unit
 whole MillionthOfUpper b = inUnits (b .x2)

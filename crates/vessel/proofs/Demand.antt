@@ -26,7 +26,7 @@ use Rattle.search.specs.declared.method.Method.{Method}
 use Rattle.search.specs.declared.method.Method.the-variants.{ByBisection, ByBrent}
 use Rattle.search.proofs.Runs.{every}
 use Rattle.search.proofs.Searches.{undecided, decides, between-nested, between-signed, between-owes, between-part}
-use Rattle.r4.specs.Ends.{missing, place}
+use Rattle.r4.specs.Ends.{place}
 use Rattle.pairs.specs.Residual.{rowOf, residual}
 use Rattle.pairs.specs.Pairs.{asks, steps, lowerEnd, upperEnd, start}
 use Rattle.pairs.proofs.Doubles.{lower-double, upper-double}
