@@ -1,5 +1,8 @@
 /* Climboat for C11 and C++: what temperature, what pressure, what volume, for water and steam (IAPWS-IF97 regions 1 and 2), or a numbered refusal.
- * Link libclimboat.a (tools/staticlib climboat). Units: MPa, K, m^3/kg, kJ/kg, kJ/(kg K), m/s. Any two doubles may be given, NaN and infinities included: no call traps, allocates or keeps state.
+ * Link libclimboat.a (tools/staticlib climboat). Units: MPa, K, m^3/kg, kJ/kg, kJ/(kg K), m/s.
+ * Every answer and every refusal says what it is of: the call, the region, the property and both inputs, which come back bit for bit, every NaN pattern too. The proofs know one NaN
+ * only: that its pattern, quiet or signalling, comes back as it went in is measured by bindings/c/run, on the processor that it runs on.
+ * Any two doubles may be given, NaN and infinities included: no call traps, allocates or keeps state.
  * The floating-point environment: this holds, and an answer is the proved one, in IEEE 754's default environment: every exception masked, rounding to nearest, subnormals kept.
  * No call changes a control bit; sticky flags may be raised. A program that is linked with -ffast-math starts with flush-to-zero on, and breaks that: as measured (bindings/c/run),
  * a volume that is itself subnormal is then refused by 4 instead of by another number, and nothing else differs. In another rounding mode most answers differ, and some become refusals.
@@ -15,17 +18,19 @@ extern "C" {
 #endif
 
 /* The version of Climboat, and what it follows. */
-#define CLIMBOAT_VERSION "0.2.0"
+#define CLIMBOAT_VERSION "0.3.0"
 #define CLIMBOAT_FOLLOWS "seuif97 2.3.8 and IAPWS R7-97(2012)"
 
-/* The region, always named by the caller; any other number is refused by CLIMBOAT_NOTHING_NAMED. */
+/* The region, always named by the caller; CLIMBOAT_NO_REGION and any other number are refused by CLIMBOAT_NOTHING_NAMED. */
 enum climboat_region {
-    CLIMBOAT_REGION_1 = 1, /* liquid water: 273.15 to 623.15 K, from saturation pressure to 100 MPa */
-    CLIMBOAT_REGION_2 = 2  /* steam: 273.15 to 1073.15 K, from 1.0e-8 MPa to saturation pressure, B23 or 100 MPa */
+    CLIMBOAT_NO_REGION = 0, /* in an answer: the call has none, or was given a number that names none */
+    CLIMBOAT_REGION_1 = 1,  /* liquid water: 273.15 to 623.15 K, from saturation pressure to 100 MPa */
+    CLIMBOAT_REGION_2 = 2   /* steam: 273.15 to 1073.15 K, from 1.0e-8 MPa to saturation pressure, B23 or 100 MPa */
 };
 
-/* The property of a climboat_pT call; any other number is refused by CLIMBOAT_NOTHING_NAMED. */
+/* The property of a climboat_pT call; CLIMBOAT_NO_PROPERTY and any other number are refused by CLIMBOAT_NOTHING_NAMED. */
 enum climboat_property {
+    CLIMBOAT_NO_PROPERTY = 0,     /* in an answer: the call has none, or was given a number that names none */
     CLIMBOAT_VOLUME = 1,          /* v, m^3/kg */
     CLIMBOAT_INTERNAL_ENERGY = 2, /* u, kJ/kg */
     CLIMBOAT_ENTROPY = 3,         /* s, kJ/(kg K) */
@@ -33,6 +38,19 @@ enum climboat_property {
     CLIMBOAT_CP = 5,              /* cp, kJ/(kg K) */
     CLIMBOAT_CV = 6,              /* cv, kJ/(kg K) */
     CLIMBOAT_SPEED_OF_SOUND = 7   /* w, m/s */
+};
+
+/* The call that an answer or a refusal is of, with its inputs in their order. A kind keeps its number; further kinds get further numbers. */
+enum climboat_kind {
+    CLIMBOAT_KIND_PT = 1,                     /* climboat_pT: p and T */
+    CLIMBOAT_KIND_SATURATION_PRESSURE = 2,    /* climboat_saturation_pressure: T */
+    CLIMBOAT_KIND_SATURATION_TEMPERATURE = 3, /* climboat_saturation_temperature: p */
+    CLIMBOAT_KIND_B23_PRESSURE = 4,           /* climboat_B23_pressure: T */
+    CLIMBOAT_KIND_B23_TEMPERATURE = 5,        /* climboat_B23_temperature: p */
+    CLIMBOAT_KIND_PV = 6,                     /* climboat_pv2T: p and v */
+    CLIMBOAT_KIND_TV = 7,                     /* climboat_Tv2p: T and v */
+    CLIMBOAT_KIND_TH = 8,                     /* climboat_Th2p: T and h */
+    CLIMBOAT_KIND_TS = 9                      /* climboat_Ts2p: T and s */
 };
 
 /* Why a value is given. */
@@ -72,33 +90,43 @@ enum climboat_refusal {
 #define CLIMBOAT_STEP_LIMIT 20000u
 #define CLIMBOAT_LARGEST_STEP_LIMIT 20000u
 
-/* What every call answers. number is CLIMBOAT_ANSWERED, or a refusal's number; value counts only where it is CLIMBOAT_ANSWERED. */
+/* What every call answers, and what that is of. number is CLIMBOAT_ANSWERED, or a refusal's number; value counts only where it is CLIMBOAT_ANSWERED.
+ * A residual compares the target of a search, its second input, with what is found at an end of the bracket by the same property's formula: above 0 the target is the larger. */
 struct climboat_answer {
-    uint32_t number; /* enum climboat_refusal */
-    uint32_t reason; /* enum climboat_reason */
-    uint32_t steps;  /* evaluations after the two ends; 0 without a search */
-    uint32_t mark;   /* enum climboat_mark */
-    double value;    /* the answer; 0 for a refusal, but for 8 the last point */
-    double lower;    /* the bracket at the search's last test, lower end first; 0 and 0 without one */
+    uint32_t number;         /* enum climboat_refusal */
+    uint32_t reason;         /* enum climboat_reason */
+    uint32_t steps;          /* evaluations after the two ends; 0 without a search */
+    uint32_t mark;           /* enum climboat_mark */
+    double value;            /* the answer; 0 for a refusal, but for 8 the last point */
+    double lower;            /* the bracket at the search's last test, lower end first; 0 and 0 without one */
     double upper;
+    double lower_residual;   /* at each end (target - found)/target, of (p,v) in region 1 and (T,v) in region 2, or target - found, of the other searches; */
+    double upper_residual;   /* 0 and 0 without a bracket; for 6 one that is not finite is given as 0 */
+    double first;            /* the call's first input as it was given, bit for bit */
+    double second;           /* its second input likewise; 0 for the saturation line and B23, which have one */
+    uint32_t region;         /* enum climboat_region; 0 for the saturation line and B23, and for 21 where the number given names no region */
+    enum climboat_kind kind; /* the call, never 0 */
+    uint32_t property;       /* enum climboat_property; 0 for every call but climboat_pT, and for 21 where the number given names no property */
+    uint32_t room;           /* always 0; it leaves the struct without a gap, whose bytes could be anything */
 };
 
-/* What the archive exports: each call writes number, reason, steps, mark and value, lower, upper into two lent arrays. Use the functions below instead.
- * A name keeps the sizes of its arrays: a wider record will have names of its own, and no program that is built already is overrun. */
-void climboat_pT_record(uint32_t region, uint32_t property, double p, double T, uint32_t numbers[4], double doubles[3]);
-void climboat_saturation_pressure_record(double T, uint32_t numbers[4], double doubles[3]);
-void climboat_saturation_temperature_record(double p, uint32_t numbers[4], double doubles[3]);
-void climboat_B23_pressure_record(double T, uint32_t numbers[4], double doubles[3]);
-void climboat_B23_temperature_record(double p, uint32_t numbers[4], double doubles[3]);
-void climboat_pv2T_record(uint32_t region, double p, double v, uint32_t limit, uint32_t numbers[4], double doubles[3]);
-void climboat_Tv2p_record(uint32_t region, double T, double v, uint32_t limit, uint32_t numbers[4], double doubles[3]);
-void climboat_Th2p_record(uint32_t region, double T, double h, uint32_t limit, uint32_t numbers[4], double doubles[3]);
-void climboat_Ts2p_record(uint32_t region, double T, double s, uint32_t limit, uint32_t numbers[4], double doubles[3]);
+/* What the archive exports: each call writes number, reason, steps, mark, region, kind, property, 0 and value, lower, upper, both residuals, first, second, 0 into two lent arrays.
+ * Use the functions below instead. A name keeps the sizes of its arrays: the record with four numbers and three doubles, up to version 0.2.0, had other names (climboat_pT_record),
+ * which have left the archive. A program that was built with an older header does not link any more, and the linker says which name is missing; it is never overrun. */
+void climboat_pT_columns(uint32_t region, uint32_t property, double p, double T, uint32_t numbers[8], double doubles[8]);
+void climboat_saturation_pressure_columns(double T, uint32_t numbers[8], double doubles[8]);
+void climboat_saturation_temperature_columns(double p, uint32_t numbers[8], double doubles[8]);
+void climboat_B23_pressure_columns(double T, uint32_t numbers[8], double doubles[8]);
+void climboat_B23_temperature_columns(double p, uint32_t numbers[8], double doubles[8]);
+void climboat_pv2T_columns(uint32_t region, double p, double v, uint32_t limit, uint32_t numbers[8], double doubles[8]);
+void climboat_Tv2p_columns(uint32_t region, double T, double v, uint32_t limit, uint32_t numbers[8], double doubles[8]);
+void climboat_Th2p_columns(uint32_t region, double T, double h, uint32_t limit, uint32_t numbers[8], double doubles[8]);
+void climboat_Ts2p_columns(uint32_t region, double T, double s, uint32_t limit, uint32_t numbers[8], double doubles[8]);
 
 /* What a call is lent, and what it wrote there as an answer. */
 struct climboat_record {
-    uint32_t numbers[4];
-    double doubles[3];
+    uint32_t numbers[8];
+    double doubles[8];
 };
 
 static inline struct climboat_answer climboat_answer_of(const struct climboat_record *record)
@@ -111,6 +139,14 @@ static inline struct climboat_answer climboat_answer_of(const struct climboat_re
     answer.value = record->doubles[0];
     answer.lower = record->doubles[1];
     answer.upper = record->doubles[2];
+    answer.lower_residual = record->doubles[3];
+    answer.upper_residual = record->doubles[4];
+    answer.first = record->doubles[5];
+    answer.second = record->doubles[6];
+    answer.region = record->numbers[4];
+    answer.kind = (enum climboat_kind)record->numbers[5];
+    answer.property = record->numbers[6];
+    answer.room = record->numbers[7];
     return answer;
 }
 
@@ -118,7 +154,7 @@ static inline struct climboat_answer climboat_answer_of(const struct climboat_re
 static inline struct climboat_answer climboat_pT(uint32_t region, uint32_t property, double p, double T)
 {
     struct climboat_record record;
-    climboat_pT_record(region, property, p, T, record.numbers, record.doubles);
+    climboat_pT_columns(region, property, p, T, record.numbers, record.doubles);
     return climboat_answer_of(&record);
 }
 
@@ -126,7 +162,7 @@ static inline struct climboat_answer climboat_pT(uint32_t region, uint32_t prope
 static inline struct climboat_answer climboat_saturation_pressure(double T)
 {
     struct climboat_record record;
-    climboat_saturation_pressure_record(T, record.numbers, record.doubles);
+    climboat_saturation_pressure_columns(T, record.numbers, record.doubles);
     return climboat_answer_of(&record);
 }
 
@@ -134,7 +170,7 @@ static inline struct climboat_answer climboat_saturation_pressure(double T)
 static inline struct climboat_answer climboat_saturation_temperature(double p)
 {
     struct climboat_record record;
-    climboat_saturation_temperature_record(p, record.numbers, record.doubles);
+    climboat_saturation_temperature_columns(p, record.numbers, record.doubles);
     return climboat_answer_of(&record);
 }
 
@@ -142,7 +178,7 @@ static inline struct climboat_answer climboat_saturation_temperature(double p)
 static inline struct climboat_answer climboat_B23_pressure(double T)
 {
     struct climboat_record record;
-    climboat_B23_pressure_record(T, record.numbers, record.doubles);
+    climboat_B23_pressure_columns(T, record.numbers, record.doubles);
     return climboat_answer_of(&record);
 }
 
@@ -150,7 +186,7 @@ static inline struct climboat_answer climboat_B23_pressure(double T)
 static inline struct climboat_answer climboat_B23_temperature(double p)
 {
     struct climboat_record record;
-    climboat_B23_temperature_record(p, record.numbers, record.doubles);
+    climboat_B23_temperature_columns(p, record.numbers, record.doubles);
     return climboat_answer_of(&record);
 }
 
@@ -158,7 +194,7 @@ static inline struct climboat_answer climboat_B23_temperature(double p)
 static inline struct climboat_answer climboat_pv2T(uint32_t region, double p, double v, uint32_t limit)
 {
     struct climboat_record record;
-    climboat_pv2T_record(region, p, v, limit, record.numbers, record.doubles);
+    climboat_pv2T_columns(region, p, v, limit, record.numbers, record.doubles);
     return climboat_answer_of(&record);
 }
 
@@ -166,7 +202,7 @@ static inline struct climboat_answer climboat_pv2T(uint32_t region, double p, do
 static inline struct climboat_answer climboat_Tv2p(uint32_t region, double T, double v, uint32_t limit)
 {
     struct climboat_record record;
-    climboat_Tv2p_record(region, T, v, limit, record.numbers, record.doubles);
+    climboat_Tv2p_columns(region, T, v, limit, record.numbers, record.doubles);
     return climboat_answer_of(&record);
 }
 
@@ -174,7 +210,7 @@ static inline struct climboat_answer climboat_Tv2p(uint32_t region, double T, do
 static inline struct climboat_answer climboat_Th2p(uint32_t region, double T, double h, uint32_t limit)
 {
     struct climboat_record record;
-    climboat_Th2p_record(region, T, h, limit, record.numbers, record.doubles);
+    climboat_Th2p_columns(region, T, h, limit, record.numbers, record.doubles);
     return climboat_answer_of(&record);
 }
 
@@ -182,7 +218,7 @@ static inline struct climboat_answer climboat_Th2p(uint32_t region, double T, do
 static inline struct climboat_answer climboat_Ts2p(uint32_t region, double T, double s, uint32_t limit)
 {
     struct climboat_record record;
-    climboat_Ts2p_record(region, T, s, limit, record.numbers, record.doubles);
+    climboat_Ts2p_columns(region, T, s, limit, record.numbers, record.doubles);
     return climboat_answer_of(&record);
 }
 

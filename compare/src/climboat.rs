@@ -46,20 +46,20 @@ exports! {
     b23_temperature(p: f64) -> f64 = b23_temperature;
 }
 
-type Numbers = *mut [u32; 4];
-type Doubles = *mut [f64; 3];
+type Numbers = *mut [u32; 8];
+type Doubles = *mut [f64; 8];
 
 #[allow(non_snake_case)]
 extern "C" {
-    fn climboat_pT_record(region: u32, property: u32, p: f64, t: f64, numbers: Numbers, doubles: Doubles);
-    fn climboat_saturation_pressure_record(t: f64, numbers: Numbers, doubles: Doubles);
-    fn climboat_saturation_temperature_record(p: f64, numbers: Numbers, doubles: Doubles);
-    fn climboat_B23_pressure_record(t: f64, numbers: Numbers, doubles: Doubles);
-    fn climboat_B23_temperature_record(p: f64, numbers: Numbers, doubles: Doubles);
-    fn climboat_pv2T_record(region: u32, p: f64, v: f64, limit: u32, numbers: Numbers, doubles: Doubles);
-    fn climboat_Tv2p_record(region: u32, t: f64, v: f64, limit: u32, numbers: Numbers, doubles: Doubles);
-    fn climboat_Th2p_record(region: u32, t: f64, h: f64, limit: u32, numbers: Numbers, doubles: Doubles);
-    fn climboat_Ts2p_record(region: u32, t: f64, s: f64, limit: u32, numbers: Numbers, doubles: Doubles);
+    fn climboat_pT_columns(region: u32, property: u32, p: f64, t: f64, numbers: Numbers, doubles: Doubles);
+    fn climboat_saturation_pressure_columns(t: f64, numbers: Numbers, doubles: Doubles);
+    fn climboat_saturation_temperature_columns(p: f64, numbers: Numbers, doubles: Doubles);
+    fn climboat_B23_pressure_columns(t: f64, numbers: Numbers, doubles: Doubles);
+    fn climboat_B23_temperature_columns(p: f64, numbers: Numbers, doubles: Doubles);
+    fn climboat_pv2T_columns(region: u32, p: f64, v: f64, limit: u32, numbers: Numbers, doubles: Doubles);
+    fn climboat_Tv2p_columns(region: u32, t: f64, v: f64, limit: u32, numbers: Numbers, doubles: Doubles);
+    fn climboat_Th2p_columns(region: u32, t: f64, h: f64, limit: u32, numbers: Numbers, doubles: Doubles);
+    fn climboat_Ts2p_columns(region: u32, t: f64, s: f64, limit: u32, numbers: Numbers, doubles: Doubles);
 }
 
 /// The calls of one number.
@@ -87,9 +87,18 @@ pub struct Record {
     pub reason: u32,
     pub steps: u32,
     pub mark: u32,
+    pub region: u32,
+    pub kind: u32,
+    pub property: u32,
     pub value: f64,
     pub lower: f64,
     pub upper: f64,
+    pub lower_residual: f64,
+    pub upper_residual: f64,
+    pub first: f64,
+    pub second: f64,
+    /// the last place of each array, always 0
+    pub room: (u32, f64),
 }
 
 /// Reasons and marks by their numbers; 0 is none.
@@ -100,50 +109,81 @@ pub const NARROW: u32 = 4;
 pub const INSIDE: u32 = 1;
 pub const OUTSIDE: u32 = 2;
 
+/// The largest step limit that a search takes.
+pub const LARGEST_LIMIT: u32 = 20_000;
+
+/// Every column 0.
+#[rustfmt::skip]
+pub const NOTHING: Record = Record {
+    number: 0, reason: 0, steps: 0, mark: 0, region: 0, kind: 0, property: 0,
+    value: 0.0, lower: 0.0, upper: 0.0, lower_residual: 0.0, upper_residual: 0.0, first: 0.0, second: 0.0,
+    room: (0, 0.0),
+};
+
 impl Record {
-    /// Bit for bit.
-    pub fn same(&self, other: &Record) -> bool {
-        let numbers = |r: &Record| [r.number, r.reason, r.steps, r.mark];
-        numbers(self) == numbers(other) && self.doubles().map(f64::to_bits) == other.doubles().map(f64::to_bits)
+    /// In the places of the C interface.
+    pub fn numbers(&self) -> [u32; 8] {
+        [self.number, self.reason, self.steps, self.mark, self.region, self.kind, self.property, self.room.0]
     }
 
-    pub fn doubles(&self) -> [f64; 3] {
-        [self.value, self.lower, self.upper]
+    pub fn doubles(&self) -> [f64; 8] {
+        [self.value, self.lower, self.upper, self.lower_residual, self.upper_residual, self.first, self.second, self.room.1]
+    }
+
+    /// Every column, bit for bit.
+    pub fn same(&self, other: &Record) -> bool {
+        self.numbers() == other.numbers() && self.doubles().map(f64::to_bits) == other.doubles().map(f64::to_bits)
+    }
+
+    /// Whether it reports a bracket: an answer of a search, and the refusals 6, 8 and 10.
+    pub fn has_bracket(&self) -> bool {
+        matches!(self.number, 0 | 6 | 8 | 10) && self.reason != VALUE
+    }
+}
+
+/// Without a mark, and without what was asked: the test copy has neither.
+#[cfg(feature = "original")]
+impl From<copy::run::Run> for Record {
+    fn from(run: copy::run::Run) -> Record {
+        let copy::run::Run { number, reason, value, steps, lower, upper, lower_residual, upper_residual } = run;
+        Record { number, reason, value, steps, lower, upper, lower_residual, upper_residual, ..NOTHING }
     }
 }
 
 pub fn property(region: u32, property: u32, p: f64, t: f64) -> Record {
-    written(|numbers, doubles| unsafe { climboat_pT_record(region, property, p, t, numbers, doubles) })
+    written([p, t], |numbers, doubles| unsafe { climboat_pT_columns(region, property, p, t, numbers, doubles) })
 }
 
 pub fn line(line: Line, x: f64) -> Record {
     let call = match line {
-        Line::SaturationPressure => climboat_saturation_pressure_record,
-        Line::SaturationTemperature => climboat_saturation_temperature_record,
-        Line::B23Pressure => climboat_B23_pressure_record,
-        Line::B23Temperature => climboat_B23_temperature_record,
+        Line::SaturationPressure => climboat_saturation_pressure_columns,
+        Line::SaturationTemperature => climboat_saturation_temperature_columns,
+        Line::B23Pressure => climboat_B23_pressure_columns,
+        Line::B23Temperature => climboat_B23_temperature_columns,
     };
-    written(|numbers, doubles| unsafe { call(x, numbers, doubles) })
+    written([x, 0.0], |numbers, doubles| unsafe { call(x, numbers, doubles) })
 }
 
 #[inline]
 pub fn search(pair: Pair, region: u32, fixed: f64, target: f64, limit: u32) -> Record {
     let call = match pair {
-        Pair::Pv => climboat_pv2T_record,
-        Pair::Tv => climboat_Tv2p_record,
-        Pair::Th => climboat_Th2p_record,
-        Pair::Ts => climboat_Ts2p_record,
+        Pair::Pv => climboat_pv2T_columns,
+        Pair::Tv => climboat_Tv2p_columns,
+        Pair::Th => climboat_Th2p_columns,
+        Pair::Ts => climboat_Ts2p_columns,
     };
-    written(|numbers, doubles| unsafe { call(region, fixed, target, limit, numbers, doubles) })
+    written([fixed, target], |numbers, doubles| unsafe { call(region, fixed, target, limit, numbers, doubles) })
 }
 
-/// The record that a call writes into the two arrays it is lent.
+/// The record that a call with these inputs writes into the two arrays it is lent.
 #[inline]
-fn written(call: impl FnOnce(Numbers, Doubles)) -> Record {
-    // nothing that an answer can hold, so that a place left unwritten shows
-    let (mut numbers, mut doubles) = ([u32::MAX; 4], [f64::NAN; 3]);
+fn written(inputs: [f64; 2], call: impl FnOnce(Numbers, Doubles)) -> Record {
+    // nothing that the answer can hold, so that a place left unwritten shows; an input may be any NaN, so its place has all its bits turned
+    let [first, second] = inputs.map(|x| f64::from_bits(!x.to_bits()));
+    let (mut numbers, mut doubles) = ([u32::MAX; 8], [f64::NAN; 8]);
+    (doubles[5], doubles[6]) = (first, second);
     call(&mut numbers, &mut doubles);
-    let [number, reason, steps, mark] = numbers;
-    let [value, lower, upper] = doubles;
-    Record { number, reason, steps, mark, value, lower, upper }
+    let [number, reason, steps, mark, region, kind, property, whole] = numbers;
+    let [value, lower, upper, lower_residual, upper_residual, first, second, double] = doubles;
+    Record { number, reason, steps, mark, region, kind, property, value, lower, upper, lower_residual, upper_residual, first, second, room: (whole, double) }
 }

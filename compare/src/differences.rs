@@ -156,6 +156,7 @@ impl Search {
         let (low, high) = (self.ends)(input.fixed);
         let from = if low == -9999.0 || high == -9999.0 { " with -9999 as an end" } else { "" };
         match (ours.number, answer) {
+            _ if !self.says_what(input.fixed, input.target, &ours) => UNEXPLAINED.into(),
             (0, Some(y)) => self.both(input, ours, y).into(),
             (0, None) if self.at_end(input.fixed, input.of.unwrap_or(ours.value)) => "answered, the original panics: at an end".into(),
             (7, None) if input.of.is_some_and(|x| self.at_end(input.fixed, x)) => "refused by 7, the original panics: at an end".into(),
@@ -197,6 +198,17 @@ impl Search {
         let (low, high) = (self.ends)(fixed);
         let near = AT_END * x.min(1.0);
         (x - low).abs() <= near || (x - high).abs() <= near
+    }
+
+    /// Whether an outcome under the original's limit gives back what was asked, and at each end of its bracket the original's own residual, or one as near as Climboat's property comes: 0 for 6 where that is not finite, and 0 without a bracket.
+    pub fn says_what(&self, fixed: f64, target: f64, ours: &Record) -> bool {
+        let near = |end: f64, given: f64| match self.residual(fixed, target, end) {
+            _ if !ours.has_bracket() => given == 0.0,
+            residual if ours.number == 6 && !residual.is_finite() => given == 0.0,
+            residual => (given - residual).abs() <= self.apart(),
+        };
+        let ends = near(ours.lower, ours.lower_residual) && near(ours.upper, ours.upper_residual);
+        ends && self.question(fixed, target, LIMIT).with(*ours).same(ours)
     }
 
     /// How far Climboat's property may lie from the original's: the bar of `compare equations`.

@@ -4,6 +4,7 @@ use crate::climboat::{Record, EXACT_END, INSIDE, NARROW, OUTSIDE, SMALL_RESIDUAL
 use crate::draw::Draw;
 use crate::plausible;
 use crate::question::{Question, LINES, PAIRS};
+use copy::run::same_sign;
 use std::ops::RangeInclusive;
 use std::thread;
 
@@ -98,18 +99,36 @@ fn unknown(draw: &mut Draw, known: RangeInclusive<u32>) -> u32 {
 
 /// Whether what Climboat gives has the form of an answer or a refusal at all, whatever the second reading says.
 fn formed(question: &Question, record: &Record) -> bool {
-    let Record { number, reason, steps, mark, value, lower, upper } = *record;
+    let Record { number, reason, steps, mark, value, lower, upper, lower_residual, upper_residual, .. } = *record;
     let search = matches!(question, Question::Search(..));
-    let without_bracket = steps == 0 && [lower, upper].map(f64::to_bits) == [0, 0];
+    let columns = [value, lower, upper, lower_residual, upper_residual];
+    let without_bracket = steps == 0 && columns[1..].iter().all(|x| x.to_bits() == 0);
     let in_bracket = search && lower < upper;
+    let opposite = in_bracket && !same_sign(lower_residual, upper_residual);
     let form = match number {
         0 if reason == VALUE => !search && mark == 0 && without_bracket,
-        0 => [EXACT_END, SMALL_RESIDUAL, NARROW].contains(&reason) && [INSIDE, OUTSIDE].contains(&mark) && in_bracket && lower <= value && value <= upper,
-        6 | 10 => in_bracket && value.to_bits() == 0,
-        8 => in_bracket && lower <= value && value <= upper,
+        0 => [EXACT_END, SMALL_RESIDUAL, NARROW].contains(&reason) && [INSIDE, OUTSIDE].contains(&mark) && opposite && lower <= value && value <= upper,
+        6 => in_bracket && value.to_bits() == 0,
+        10 => opposite && value.to_bits() == 0,
+        8 => opposite && lower <= value && value <= upper,
         _ => NUMBERS.contains(&number) && without_bracket && value.to_bits() == 0,
     };
-    form && record.doubles().into_iter().all(f64::is_finite) && (number == 0 || (reason == 0 && mark == 0))
+    form && says_what(question, record) && columns.into_iter().all(f64::is_finite) && (number == 0 || (reason == 0 && mark == 0))
+}
+
+/// Whether region, kind and property are numbers that a call can have, and the inputs have come back bit for bit, any NaN too.
+fn says_what(question: &Question, record: &Record) -> bool {
+    let Record { number, region, kind, property, first, second, .. } = *record;
+    let inputs = [first, second].map(f64::to_bits) == question.inputs().map(f64::to_bits);
+    let (regions, properties) = match kind {
+        1 => (1..=2, 1..=7),
+        2..=5 => (0..=0, 0..=0),
+        6..=9 => (1..=2, 0..=0),
+        _ => return false,
+    };
+    // 21 alone may lack what its call names
+    let named = |range: RangeInclusive<u32>, n: u32| range.contains(&n) || (number == 21 && n == 0);
+    inputs && kind == question.kind() && named(regions, region) && named(properties, property)
 }
 
 /// How often each call gave each outcome: a refusal at its number, an answer after them by its reason and mark.
@@ -127,7 +146,7 @@ fn row(question: &Question) -> usize {
         Question::Property(region @ 1..=2, 1..=7, ..) | Question::Search(_, region @ 1..=2, ..) => region,
         _ => 0,
     };
-    3 * question.call() + region as usize
+    (3 * question.kind() + region) as usize
 }
 
 fn outcome(record: &Record) -> usize {

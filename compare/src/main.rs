@@ -1,4 +1,4 @@
-//! Climboat against Rust: `compare helpers` compares the float helpers, `compare equations` the equations with the original crate, `compare searches` the pair searches with its test copy and with itself, `compare doubles` any two doubles with the refusal table and the steps of bisection read a second time, `compare recorded` makes the answers that crates/replay keeps, `compare vacuum` searches region 2 (T,v) from a low vacuum upwards and makes a table of docs/DIFFERENCES.md, `compare timing` prints the tables of docs/SPEED.md.
+//! Climboat against Rust: `compare helpers` compares the float helpers, `compare nans` asks every call with every kind of NaN, `compare equations` the equations with the original crate, `compare searches` the pair searches with its test copy and with itself, `compare doubles` any two doubles with the refusal table and the steps of bisection read a second time, `compare recorded` makes the answers that crates/replay keeps, `compare vacuum` searches region 2 (T,v) from a low vacuum upwards and makes a table of docs/DIFFERENCES.md, `compare timing` prints the tables of docs/SPEED.md.
 
 mod climboat;
 #[cfg(feature = "original")]
@@ -9,11 +9,11 @@ mod draw;
 #[cfg(feature = "original")]
 mod equations;
 mod helpers;
+mod nans;
 #[cfg(feature = "original")]
 mod pairs;
 #[cfg(feature = "original")]
 mod plausible;
-#[cfg(feature = "original")]
 mod question;
 #[cfg(feature = "original")]
 mod recorded;
@@ -32,6 +32,7 @@ fn main() -> ExitCode {
     let words: Vec<String> = std::env::args().skip(1).collect();
     match words.iter().map(String::as_str).collect::<Vec<_>>()[..] {
         ["helpers"] => told(helpers::compare()),
+        ["nans"] => told(nans::compare()),
         #[cfg(feature = "original")]
         ["equations"] => told(equations::compare()),
         #[cfg(feature = "original")]
@@ -47,7 +48,7 @@ fn main() -> ExitCode {
             ExitCode::SUCCESS
         }
         _ => {
-            eprintln!("usage: compare helpers | equations | searches | doubles [N] | recorded [FOLDER | --check] | vacuum [--check] | timing (helpers and timing alone where the original crate is not at hand)");
+            eprintln!("usage: compare helpers | nans | equations | searches | doubles [N] | recorded [FOLDER | --check] | vacuum [--check] | timing (helpers, nans and timing alone where the original crate is not at hand)");
             ExitCode::from(2)
         }
     }

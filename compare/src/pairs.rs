@@ -1,8 +1,9 @@
 //! The eight pair searches, each as Climboat, the test copy and the original crate have it, and the states at which they are compared.
 
-use crate::climboat::{self, Pair, Record};
+use crate::climboat::{Pair, Record};
 use crate::draw::Draw;
 use crate::equations::{most, region_1, region_2};
+use crate::question::Question;
 use copy::r1::region1_pair_ext as copy1;
 use copy::r2::region2_pair_ext as copy2;
 use copy::run::Run;
@@ -72,8 +73,12 @@ impl Search {
         self.width.is_some()
     }
 
+    pub fn question(&self, fixed: f64, target: f64, limit: u32) -> Question {
+        Question::Search(self.pair, self.region, fixed, target, limit)
+    }
+
     pub fn ours(&self, fixed: f64, target: f64, limit: u32) -> Record {
-        climboat::search(self.pair, self.region, fixed, target, limit)
+        self.question(fixed, target, limit).climboat()
     }
 
     /// (p,T) of the input that is fixed and a point x of the search.

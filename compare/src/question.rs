@@ -1,6 +1,7 @@
 //! A question to one public call: its line of digits, Climboat's answer, and that of the second reading of the table.
 
-use crate::climboat::{self, Line, Pair, Record};
+use crate::climboat::{self, Line, Pair, Record, NOTHING};
+#[cfg(feature = "original")]
 use crate::table;
 
 /// With the inputs in the order of the C interface.
@@ -15,6 +16,7 @@ pub const LINES: [Line; 4] = [Line::SaturationPressure, Line::SaturationTemperat
 pub const PAIRS: [Pair; 4] = [Pair::Pv, Pair::Tv, Pair::Th, Pair::Ts];
 
 impl Question {
+    #[inline]
     pub fn climboat(&self) -> Record {
         match *self {
             Question::Property(region, property, p, t) => climboat::property(region, property, p, t),
@@ -23,30 +25,54 @@ impl Question {
         }
     }
 
+    #[cfg(feature = "original")]
     pub fn table(&self) -> Record {
-        match *self {
+        self.with(match *self {
             Question::Property(region, property, p, t) => table::property(region, property, p, t),
             Question::Line(line, x) => table::line(line, x),
             Question::Search(pair, region, fixed, target, limit) => table::search(pair, region, fixed, target, limit),
-        }
+        })
     }
 
     /// The call by its number in a line of `replay`: 1 is (p,T), 2 to 5 are the lines, 6 to 9 the searches.
-    pub fn call(&self) -> usize {
+    pub fn kind(&self) -> u32 {
         match *self {
             Question::Property(..) => 1,
-            Question::Line(line, _) => 2 + line as usize,
-            Question::Search(pair, ..) => 6 + pair as usize,
+            Question::Line(line, _) => 2 + line as u32,
+            Question::Search(pair, ..) => 6 + pair as u32,
         }
     }
 
-    /// As the program `replay` reads it, without the end of the line; what the call does not take is 0.
+    /// Region, property, limit and the two inputs; what the call does not take is 0.
+    fn given(&self) -> (u32, u32, u32, [f64; 2]) {
+        match *self {
+            Question::Property(region, property, p, t) => (region, property, 0, [p, t]),
+            Question::Line(_, x) => (0, 0, 0, [x, 0.0]),
+            Question::Search(_, region, fixed, target, limit) => (region, 0, limit, [fixed, target]),
+        }
+    }
+
+    pub fn inputs(&self) -> [f64; 2] {
+        self.given().3
+    }
+
+    /// The columns that say what a record is of, and no outcome: a region or a property that names nothing is 0.
+    pub fn asked(&self) -> Record {
+        let (region, property, _, [first, second]) = self.given();
+        let named = |number: u32, last: u32| if number <= last { number } else { 0 };
+        Record { region: named(region, 2), kind: self.kind(), property: named(property, 7), first, second, ..NOTHING }
+    }
+
+    /// An outcome with what it is of, and nothing in the room.
+    pub fn with(&self, outcome: Record) -> Record {
+        let Record { region, kind, property, first, second, room, .. } = self.asked();
+        Record { region, kind, property, first, second, room, ..outcome }
+    }
+
+    /// As the program `replay` reads it, without the end of the line.
     pub fn digits(&self) -> String {
-        let (region, property, limit, first, second) = match *self {
-            Question::Property(region, property, p, t) => (region, property, 0, p, t),
-            Question::Line(_, x) => (0, 0, 0, x, 0.0),
-            Question::Search(_, region, fixed, target, limit) => (region, 0, limit, fixed, target),
-        };
-        format!("{:02x} {region:x} {property:x} {limit:05x} {:016x} {:016x}", self.call(), first.to_bits(), second.to_bits())
+        let (region, property, limit, inputs) = self.given();
+        let [first, second] = inputs.map(f64::to_bits);
+        format!("{:02x} {region:x} {property:x} {limit:05x} {first:016x} {second:016x}", self.kind())
     }
 }

@@ -92,21 +92,32 @@ fn check(name: &str, made: &str) -> bool {
     false
 }
 
-/// A record as the programs write an answer, each double in the sixteen digits of its bits.
+/// A record as the programs write an answer.
 fn columns(record: &Record) -> String {
-    let Record { number, reason, steps, mark, .. } = *record;
-    let [value, lower, upper] = record.doubles().map(|x| format!("{:016x}", x.to_bits()));
+    let Record { number, reason, steps, mark, region, kind, property, .. } = *record;
+    let [value, lower, upper, lower_residual, upper_residual, first, second, _] = record.doubles().map(double);
+    let bracket = format!("steps {steps}, bracket {lower} {upper}, residuals {lower_residual} {upper_residual}");
+    let asked = format!("kind {kind}, region {region}, property {property}, inputs {first} {second}");
     if number != 0 {
-        return format!("refused {number}, value {value}, steps {steps}, bracket {lower} {upper}");
+        return format!("refused {number}, value {value}, {bracket}, {asked}");
     }
     let reason = match reason {
-        VALUE => return format!("value {value}"),
+        VALUE => return format!("value {value}, {asked}"),
         EXACT_END => "exact end",
         SMALL_RESIDUAL => "small residual",
         _ => "narrow",
     };
     let mark = if mark == INSIDE { "inside" } else { "outside" };
-    format!("{reason} {value}, steps {steps}, bracket {lower} {upper}, {mark}")
+    format!("{reason} {value}, {bracket}, {mark}, {asked}")
+}
+
+/// The sixteen digits of its bits; a NaN, as the programs write it, by its name: its bits are held by `compare nans`.
+fn double(x: f64) -> String {
+    if x.is_nan() {
+        String::from("NaN")
+    } else {
+        format!("{:016x}", x.to_bits())
+    }
 }
 
 fn questions() -> Vec<Question> {
@@ -114,6 +125,7 @@ fn questions() -> Vec<Question> {
     let mut list = readings();
     list.extend(strange());
     list.extend(unknown());
+    list.extend(one_end_finite());
     list.extend(properties(&mut draw));
     list.extend(lines(&mut draw));
     for search in &SEARCHES {
@@ -179,6 +191,11 @@ fn unknown() -> Vec<Question> {
     }
     list.extend([(1, 0), (2, 8), (1, 15)].map(|(region, property)| Question::Property(region, property, 1.0, 500.0)));
     list
+}
+
+/// Refused by 6, with a residual that is finite at the lower end alone, and at the upper end alone.
+fn one_end_finite() -> [Question; 2] {
+    [Question::Search(Pair::Pv, 1, 1.0, 6.0e-312, 20_000), Question::Search(Pair::Tv, 2, 1000.0, 1.0e-305, 20_000)]
 }
 
 /// Every property at states inside its region, and at plausible ones.

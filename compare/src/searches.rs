@@ -34,10 +34,11 @@ fn hold(search: &Search, seed: u64) -> bool {
     let mut counts = Counts::default();
     for &(fixed, target) in &inputs {
         for limit in LIMITS.into_iter().chain([3 + draw.below(58) as u32]) {
-            let ours = search.ours(fixed, target, limit);
-            let copys = (search.copys)(fixed, target, limit as i32);
-            tally.check(agrees(search, fixed, ours, copys), || format!("{fixed:e}, {target:e}, limit {limit}: {ours:?}; the test copy {copys:?}"));
-            counts.meet(copys);
+            let question = search.question(fixed, target, limit);
+            let run = (search.copys)(fixed, target, limit as i32);
+            let (ours, copys) = (question.climboat(), question.with(marked(search, fixed, run)));
+            tally.check(ours.same(&copys), || format!("{fixed:e}, {target:e}, limit {limit}: {ours:?}; the test copy {copys:?}"));
+            counts.meet(run);
         }
     }
     tally.told(&format!(", bit for bit; {} inputs under the limits {LIMITS:?} and one from 3 to 60; {}", inputs.len(), counts.told()))
@@ -70,14 +71,14 @@ fn met_exactly(search: &Search, fixed: f64, target: f64) -> impl Iterator<Item =
     met.map(move |target| (fixed, target))
 }
 
-fn agrees(search: &Search, fixed: f64, ours: Record, copys: Run) -> bool {
-    let Run { number, reason, value, steps, lower, upper } = copys;
-    let mark = match number {
-        0 if search.inside(search.state(fixed, value)) => INSIDE,
+/// With the mark, which the test copy has not, by the (p,T) rule.
+fn marked(search: &Search, fixed: f64, run: Run) -> Record {
+    let mark = match run.number {
+        0 if search.inside(search.state(fixed, run.value)) => INSIDE,
         0 => OUTSIDE,
         _ => 0,
     };
-    ours.same(&Record { number, reason, steps, mark, value, lower, upper })
+    Record { mark, ..run.into() }
 }
 
 /// Answers by their reason, refusals by their number, and the largest number of steps.

@@ -1,6 +1,6 @@
 //! The refusal table and the steps of bisection, read a second time from the documents and not from Climboat: what every public call gives, over the test copy's functions. The test copy's own outcome of a search must be the same wherever this reading has one; Brent's steps are the test copy's.
 
-use crate::climboat::{Line, Pair, Record, EXACT_END, INSIDE, NARROW, OUTSIDE, SMALL_RESIDUAL, VALUE};
+use crate::climboat::{Line, Pair, Record, EXACT_END, INSIDE, LARGEST_LIMIT, NARROW, NOTHING, OUTSIDE, SMALL_RESIDUAL, VALUE};
 use copy::common::boundaries::{B23_T2p, B23_p2T};
 use copy::r1::region1_pT as r1;
 use copy::r1::region1_pair_ext as pairs1;
@@ -12,10 +12,6 @@ use std::ops::RangeInclusive;
 
 /// Of p and T, in this order.
 type Property = fn(f64, f64) -> f64;
-
-const LARGEST_LIMIT: u32 = 20_000;
-
-const NOTHING: Record = Record { number: 0, reason: 0, steps: 0, mark: 0, value: 0.0, lower: 0.0, upper: 0.0 };
 
 fn refused(number: u32) -> Record {
     Record { number, ..NOTHING }
@@ -139,19 +135,20 @@ pub fn search(pair: Pair, region: u32, fixed: f64, target: f64, limit: u32) -> R
     let (lower, upper) = (search.ends)(fixed);
     let start = Record { lower, upper, ..NOTHING };
     let opening = search.opening(fixed, target, start);
-    let read = opening.or_else(|| search.width.map(|width| search.bisected(width, fixed, target, limit, start)));
-    let Run { number, reason, value, steps, lower, upper } = (search.run)(fixed, target, limit as i32);
-    let run = Record { number, reason, steps, mark: 0, value, lower, upper };
-    let agree = read.map_or_else(|| after_opening(&start, &run), |read| read.same(&run));
+    let decided = opening.or_else(|| search.width.map(|width| search.bisected(width, fixed, target, limit, start)));
+    let run = Record::from((search.run)(fixed, target, limit as i32));
+    // of Brent's steps the bracket is the test copy's, its residuals are not
+    let read = search.with_residuals(fixed, target, decided.unwrap_or(run));
+    let agree = read.same(&run) && (decided.is_some() || after_opening(&start, &run));
     assert!(agree, "the test copy reads otherwise than the table at {:016x} {:016x}: {start:?}, {read:?}, {run:?}", fixed.to_bits(), target.to_bits());
-    search.marked(fixed, read.unwrap_or(run))
+    search.marked(fixed, read)
 }
 
 /// Whether a run is one that the steps decided, from the same bracket.
 fn after_opening(start: &Record, run: &Record) -> bool {
     let within = start.lower <= run.lower && run.upper <= start.upper;
     let still = start.lower == run.lower && run.upper == start.upper;
-    [0, 6, 8, 10].contains(&run.number) && run.reason != EXACT_END && within && (run.steps > 0 || still)
+    run.has_bracket() && run.reason != EXACT_END && within && (run.steps > 0 || still)
 }
 
 impl Search {
@@ -248,6 +245,18 @@ impl Search {
         } else {
             target - found
         }
+    }
+
+    /// With the residuals at both ends of the bracket that it reports; for 6 one that is not finite is 0, each by itself.
+    fn with_residuals(&self, fixed: f64, target: f64, record: Record) -> Record {
+        if !record.has_bracket() {
+            return record;
+        }
+        let [lower_residual, upper_residual] = [record.lower, record.upper].map(|end| match self.residual(fixed, target, end) {
+            residual if record.number == 6 && !residual.is_finite() => 0.0,
+            residual => residual,
+        });
+        Record { lower_residual, upper_residual, ..record }
     }
 
     fn marked(&self, fixed: f64, record: Record) -> Record {

@@ -1,6 +1,6 @@
-//! Timings against Rust's own, as ratios from one run: the median of nine.
+//! Timings against Rust's own, and of the public calls against the formulas in them, as ratios from one run: the median of nine.
 
-use crate::climboat;
+use crate::climboat::{self, Line, Pair, LARGEST_LIMIT};
 use crate::draw::Draw;
 use std::hint::black_box;
 use std::time::Instant;
@@ -33,6 +33,8 @@ fn head(what: &str, rusts: &str) {
 
 pub fn tables() {
     helpers();
+    println!();
+    calls();
     #[cfg(feature = "original")]
     for table in [properties, saturation_line, searches] {
         println!();
@@ -40,17 +42,80 @@ pub fn tables() {
     }
 }
 
-/// The fourteen properties, over 20,000 states each.
+/// Each a pressure and a temperature inside the region.
+type States = Vec<(f64, f64)>;
+
+/// 20,000 states of each region.
+fn states() -> [States; 2] {
+    let mut draw = Draw::new(0x0c1b_0a70_0000_0006);
+    let one = (0..20_000).map(|_| (draw.between(20.0, 100.0), draw.between(273.15, 623.15))).collect();
+    let two = (0..20_000).map(|_| (draw.logarithmic(1.0e-8, 0.0006), draw.between(273.15, 1073.15))).collect();
+    [one, two]
+}
+
+/// 20,000 temperatures and pressures of the saturation line.
+fn saturated() -> [Vec<f64>; 2] {
+    let mut draw = Draw::new(0x0c1b_0a70_0000_0007);
+    [(0..20_000).map(|_| draw.between(273.15, 647.0)).collect(), (0..20_000).map(|_| draw.logarithmic(0.00062, 22.0)).collect()]
+}
+
+/// The nine public calls, against the one formula that they are of: what the checks and the record cost, and how many evaluations a search is worth.
+fn calls() {
+    head("public call", "formula alone");
+    let states = states();
+    for (region, property, name, formula) in PROPERTIES {
+        let states = &states[region as usize - 1];
+        row(&format!("region {region} (p,T) to {name}"), states, |s| climboat::property(region, property, s.0, s.1).value, |s| formula(s.0, s.1));
+    }
+    let [temperatures, pressures] = saturated();
+    let mut draw = Draw::new(0x0c1b_0a70_0000_0009);
+    let b23_temperatures: Vec<f64> = (0..20_000).map(|_| draw.between(623.15, 863.15)).collect();
+    let b23_pressures: Vec<f64> = (0..20_000).map(|_| draw.between(16.6, 100.0)).collect();
+    row("saturation pressure", &temperatures, |&t| climboat::line(Line::SaturationPressure, t).value, |&t| climboat::saturation_pressure(t));
+    row("saturation temperature", &pressures, |&p| climboat::line(Line::SaturationTemperature, p).value, |&p| climboat::saturation_temperature(p));
+    row("B23 pressure", &b23_temperatures, |&t| climboat::line(Line::B23Pressure, t).value, |&t| climboat::b23_pressure(t));
+    row("B23 temperature", &b23_pressures, |&p| climboat::line(Line::B23Temperature, p).value, |&p| climboat::b23_temperature(p));
+    for (pair, name) in [(Pair::Pv, "(p,v) to T"), (Pair::Tv, "(T,v) to p"), (Pair::Th, "(T,h) to p"), (Pair::Ts, "(T,s) to p")] {
+        for region in [1, 2] {
+            search(pair, region, &format!("region {region} {name}"), &states[region as usize - 1][..2_000]);
+        }
+    }
+}
+
+/// Region, property, its name and its formula; the searches are of v, h and s.
+const PROPERTIES: [(u32, u32, &str, fn(f64, f64) -> f64); 8] = [
+    (1, 1, "v", climboat::region1_v),
+    (1, 3, "s", climboat::region1_s),
+    (1, 4, "h", climboat::region1_h),
+    (1, 7, "w", climboat::region1_w),
+    (2, 1, "v", climboat::region2_v),
+    (2, 3, "s", climboat::region2_s),
+    (2, 4, "h", climboat::region2_h),
+    (2, 7, "w", climboat::region2_w),
+];
+
+/// A row of the searches, over those of the states that they find.
+fn search(pair: Pair, region: u32, name: &str, states: &[(f64, f64)]) {
+    let sought = match pair {
+        Pair::Pv | Pair::Tv => "v",
+        Pair::Th => "h",
+        Pair::Ts => "s",
+    };
+    let (.., formula) = PROPERTIES.into_iter().find(|&(of, _, property, _)| of == region && property == sought).expect("v, h or s");
+    let ours = |p: f64, t: f64, target: f64| climboat::search(pair, region, if pair == Pair::Pv { p } else { t }, target, LARGEST_LIMIT);
+    let mut inputs: Vec<(f64, f64, f64)> = states.iter().map(|&(p, t)| (p, t, formula(p, t))).collect();
+    inputs.retain(|&(p, t, target)| ours(p, t, target).number == 0);
+    row(name, &inputs, |&(p, t, target)| ours(p, t, target).value, |&(p, t, _)| formula(p, t));
+}
+
+/// The fourteen properties.
 #[cfg(feature = "original")]
 fn properties() {
     use crate::equations::{REGION_1, REGION_2};
-    let mut draw = Draw::new(0x0c1b_0a70_0000_0006);
-    let one: Vec<(f64, f64)> = (0..20_000).map(|_| (draw.between(20.0, 100.0), draw.between(273.15, 623.15))).collect();
-    let two: Vec<(f64, f64)> = (0..20_000).map(|_| (draw.logarithmic(1.0e-8, 0.0006), draw.between(273.15, 1073.15))).collect();
     head("property", "original");
-    for (rows, states) in [(&REGION_1, &one), (&REGION_2, &two)] {
+    for (rows, states) in [&REGION_1, &REGION_2].into_iter().zip(states()) {
         for r in rows {
-            row(r.name, states, |s| (r.ours)(s.0, s.1), |s| (r.rusts)(s.0, s.1));
+            row(r.name, &states, |s| (r.ours)(s.0, s.1), |s| (r.rusts)(s.0, s.1));
         }
     }
 }
@@ -58,9 +123,7 @@ fn properties() {
 #[cfg(feature = "original")]
 fn saturation_line() {
     use original::r4::region4_sat_pT::{T_saturation, p_saturation};
-    let mut draw = Draw::new(0x0c1b_0a70_0000_0007);
-    let temperatures: Vec<f64> = (0..20_000).map(|_| draw.between(273.15, 647.0)).collect();
-    let pressures: Vec<f64> = (0..20_000).map(|_| draw.logarithmic(0.00062, 22.0)).collect();
+    let [temperatures, pressures] = saturated();
     head("saturation line", "original");
     row("saturation pressure", &temperatures, |&t| climboat::saturation_pressure(t), |&t| p_saturation(t));
     row("saturation temperature", &pressures, |&p| climboat::saturation_temperature(p), |&p| T_saturation(p));

@@ -122,7 +122,7 @@ impl State {
         (value - self.p).abs() / self.p
     }
 
-    /// What is wrong with the two answers, if anything: before must be the crate's own answer, after must hold what its reason says.
+    /// What is wrong with the two answers, if anything: before must be the crate's own answer, after must hold what its reason says, and say what it is of.
     fn fault(&self, search: &Search) -> Option<String> {
         let Record { number, reason, value, lower, upper, .. } = self.after;
         let at = |x: f64| search.residual(self.t, self.v, x);
@@ -140,7 +140,8 @@ impl State {
             _ => crates.is_some_and(|x| same(x, self.before.value)),
         };
         let State { t, p, before, after, .. } = self;
-        (!good || !the_crates).then(|| format!("T = {t:?}, p = {p:?}: before {before:?}, the crate {crates:?}, after {after:?}"))
+        let says_what = search.says_what(self.t, self.v, &self.after);
+        (!good || !the_crates || !says_what).then(|| format!("T = {t:?}, p = {p:?}: before {before:?}, the crate {crates:?}, after {after:?}"))
     }
 }
 

@@ -1,26 +1,34 @@
-/* A vessel's door check in C: what is in it, is it below boiling, and what a refusal looks like. */
-#include <climboat.h>
+/* A vessel's door check in C: what is in it, is it below boiling, and what a refusal looks like. Each line says what it is of, from the record: no number stands on its own. */
+#include "question.h"
 #include <math.h>
-#include <stdio.h>
 
-static void tell(const char *what, struct climboat_answer answer, const char *unit)
+static void tell(struct climboat_answer answer)
 {
+    struct quantity sought = sought_by(answer);
+    char question[160];
+    write_question(question, sizeof question, answer);
     if (!climboat_is_answered(answer)) {
-        printf("%s: refused by %u, %s\n", what, (unsigned)answer.number, climboat_sentence(answer.number));
+        printf("%s: %s, refused by %u, %s\n", question, sought.letter, (unsigned)answer.number, climboat_sentence(answer.number));
         return;
     }
-    printf("%s: %.17g %s\n", what, answer.value, unit);
+    printf("%s: %s = %.17g %s\n", question, sought.letter, answer.value, sought.unit);
 }
 
-static void tell_search(const char *what, struct climboat_answer answer, const char *unit)
+static void tell_bracket(struct climboat_answer answer)
+{
+    printf("  after %u steps between %.17g and %.17g %s, where the residuals are %.17g and %.17g\n", (unsigned)answer.steps, answer.lower, answer.upper, sought_by(answer).unit,
+           answer.lower_residual, answer.upper_residual);
+}
+
+static void tell_search(struct climboat_answer answer)
 {
     static const char *const reasons[] = {"", "value", "exact end", "small residual", "narrow"};
-    tell(what, answer, unit);
+    tell(answer);
     if (climboat_is_answered(answer)) {
-        printf("  %s after %u steps, between %.17g and %.17g, %s the region\n", reasons[answer.reason], (unsigned)answer.steps, answer.lower, answer.upper,
-               answer.mark == CLIMBOAT_INSIDE ? "inside" : "outside");
+        printf("  %s, %s the region\n", reasons[answer.reason], answer.mark == CLIMBOAT_INSIDE ? "inside" : "outside");
+        tell_bracket(answer);
     } else if (answer.number == CLIMBOAT_STEPS_SPENT) {
-        printf("  after %u steps it is between %.17g and %.17g\n", (unsigned)answer.steps, answer.lower, answer.upper);
+        tell_bracket(answer);
     }
 }
 
@@ -29,54 +37,35 @@ static void door_check(double p, double v)
 {
     struct climboat_answer temperature = climboat_pv2T(CLIMBOAT_REGION_1, p, v, CLIMBOAT_STEP_LIMIT);
     struct climboat_answer boiling = climboat_saturation_temperature(0.101325);
-    tell_search("temperature in the vessel", temperature, "K");
+    tell_search(temperature);
+    tell(boiling);
     if (climboat_is_inside(temperature) && climboat_is_inside(boiling)) {
-        printf("  %s\n", temperature.value < boiling.value ? "below boiling" : "boiling: keep the door shut");
+        printf("door: %s\n", temperature.value < boiling.value ? "below boiling" : "boiling, keep it shut");
     } else if (climboat_is_answered(temperature) && climboat_is_answered(boiling)) {
-        printf("  a value outside the region: keep the door shut\n");
+        printf("door: a value outside the region, keep it shut\n");
     } else {
-        printf("  no reading: keep the door shut\n");
-    }
-}
-
-/* The first column of the release's Table 5, all seven properties. */
-static void tell_properties(void)
-{
-    static const struct {
-        uint32_t property;
-        const char *name;
-        const char *unit;
-    } rows[] = {
-        {CLIMBOAT_VOLUME, "v", "m^3/kg"},
-        {CLIMBOAT_INTERNAL_ENERGY, "u", "kJ/kg"},
-        {CLIMBOAT_ENTROPY, "s", "kJ/(kg K)"},
-        {CLIMBOAT_ENTHALPY, "h", "kJ/kg"},
-        {CLIMBOAT_CP, "cp", "kJ/(kg K)"},
-        {CLIMBOAT_CV, "cv", "kJ/(kg K)"},
-        {CLIMBOAT_SPEED_OF_SOUND, "w", "m/s"},
-    };
-    size_t i;
-    printf("region 1 at 3 MPa and 300 K\n");
-    for (i = 0; i < sizeof rows / sizeof rows[0]; i++) {
-        tell(rows[i].name, climboat_pT(CLIMBOAT_REGION_1, rows[i].property, 3.0, 300.0), rows[i].unit);
+        printf("door: no reading, keep it shut\n");
     }
 }
 
 int main(void)
 {
-    tell_properties();
-    tell("h at 0.0035 MPa and 700 K in region 2", climboat_pT(CLIMBOAT_REGION_2, CLIMBOAT_ENTHALPY, 0.0035, 700.0), "kJ/kg");
-    tell("saturation temperature at 1 MPa", climboat_saturation_temperature(1.0), "K");
-    tell("saturation pressure at 500 K", climboat_saturation_pressure(500.0), "MPa");
-    tell("B23 at 700 K", climboat_B23_pressure(700.0), "MPa");
-    tell("B23 at 50 MPa", climboat_B23_temperature(50.0), "K");
+    uint32_t property;
+    /* the first column of the release's Table 5, all seven properties */
+    for (property = CLIMBOAT_VOLUME; property <= CLIMBOAT_SPEED_OF_SOUND; property++) tell(climboat_pT(CLIMBOAT_REGION_1, property, 3.0, 300.0));
+    tell(climboat_pT(CLIMBOAT_REGION_2, CLIMBOAT_ENTHALPY, 0.0035, 700.0));
+    tell(climboat_saturation_temperature(1.0));
+    tell(climboat_saturation_pressure(500.0));
+    tell(climboat_B23_pressure(700.0));
+    tell(climboat_B23_temperature(50.0));
     door_check(0.2, 0.00103);
     door_check(1.0, 0.0009996);
-    tell_search("pressure at 500 K and 7.2 kJ/(kg K) in region 2", climboat_Ts2p(CLIMBOAT_REGION_2, 500.0, 7.2, 40), "MPa");
-    tell_search("pressure at 500 K and 2900 kJ/kg in region 2", climboat_Th2p(CLIMBOAT_REGION_2, 500.0, 2900.0, CLIMBOAT_STEP_LIMIT), "MPa");
-    tell_search("pressure at 500 K and 0.1 m^3/kg in region 2, limit 5", climboat_Tv2p(CLIMBOAT_REGION_2, 500.0, 0.1, 5), "MPa");
-    tell("v at NaN", climboat_pT(CLIMBOAT_REGION_1, CLIMBOAT_VOLUME, NAN, 300.0), "m^3/kg");
-    tell("v of region 3", climboat_pT(3, CLIMBOAT_VOLUME, 3.0, 300.0), "m^3/kg");
-    tell("limit 20001", climboat_Tv2p(CLIMBOAT_REGION_1, 300.0, 0.001, CLIMBOAT_LARGEST_STEP_LIMIT + 1), "MPa");
+    tell_search(climboat_Ts2p(CLIMBOAT_REGION_2, 500.0, 7.2, 40));
+    tell_search(climboat_Th2p(CLIMBOAT_REGION_2, 500.0, 2900.0, CLIMBOAT_STEP_LIMIT));
+    tell_search(climboat_Tv2p(CLIMBOAT_REGION_2, 500.0, 0.1, 5));
+    tell(climboat_pT(CLIMBOAT_REGION_1, CLIMBOAT_VOLUME, NAN, 300.0));
+    tell(climboat_pT(3, CLIMBOAT_VOLUME, 3.0, 300.0));
+    tell(climboat_pT(CLIMBOAT_REGION_1, 8, 3.0, 300.0));
+    tell(climboat_Tv2p(CLIMBOAT_REGION_1, 300.0, 0.001, CLIMBOAT_LARGEST_STEP_LIMIT + 1));
     return 0;
 }

@@ -1,5 +1,6 @@
-//! What a call answers: a reading with its reason, or a refusal with its number.
+//! What a call answers: a reading with its reason, or a refusal with its number, and what each is of.
 use crate::archive::Record;
+use crate::asked::Asked;
 use std::fmt;
 
 /// Why a value is an answer.
@@ -27,7 +28,18 @@ impl fmt::Display for Reason {
     }
 }
 
-/// The two ends between which a search last looked, in the unit of what it finds.
+/// The two ends between which a search last looked, in the unit of what it finds, and the residuals there.
+///
+/// A residual is the target less what the formula gives at the end, so that it can be computed again; [`Asked::residual_unit`] says what it is in.
+///
+/// ```
+/// use climboat::{property, ts2p, Property, Region, STEP_LIMIT};
+///
+/// let bracket = ts2p(Region::Two, 500.0, 7.2, STEP_LIMIT)?.search.unwrap().bracket;
+/// let entropy = property(Region::Two, Property::Entropy, bracket.lower, 500.0)?;
+/// assert_eq!(bracket.lower_residual, 7.2 - entropy.value);
+/// # Ok::<(), climboat::Refusal>(())
+/// ```
 #[non_exhaustive]
 #[derive(Clone, Copy, Debug, PartialEq)]
 pub struct Bracket {
@@ -35,6 +47,10 @@ pub struct Bracket {
     pub lower: f64,
     /// The upper end.
     pub upper: f64,
+    /// The residual at the lower end.
+    pub lower_residual: f64,
+    /// The residual at the upper end.
+    pub upper_residual: f64,
 }
 
 /// What a search says beside its value.
@@ -50,10 +66,22 @@ pub struct Search {
 }
 
 /// An answer.
+///
+/// ```
+/// use climboat::{property, Property, Region};
+///
+/// let reading = property(Region::One, Property::Volume, 3.0, 300.0)?;
+/// let (value, asked) = (reading.value, reading.asked);
+/// let told = format!("{} = {value:.9} {} of {asked}", asked.wanted().symbol, asked.wanted().unit);
+/// assert_eq!(told, "v = 0.001002152 m^3/kg of region 1, p = 3.0 MPa, T = 300.0 K");
+/// # Ok::<(), climboat::Refusal>(())
+/// ```
 #[non_exhaustive]
 #[derive(Clone, Copy, Debug, PartialEq)]
 pub struct Reading {
-    /// The value, in the unit of the property or of what the pair finds.
+    /// What the answer is of.
+    pub asked: Asked,
+    /// The value, in the unit of what was asked for ([`Asked::wanted`]).
     pub value: f64,
     /// Why the value is an answer.
     pub reason: Reason,
@@ -146,19 +174,33 @@ const ROWS: [Row; 12] = [
     row(21, Cause::NothingNamed, false, "the region or the property is not one that this call knows; name another"),
 ];
 
-/// No answer: the refusal's number, and where the search was when it gave up.
+/// No answer: the refusal's number, what it is of, and where the search was when it gave up.
 ///
-/// It shows itself as a sentence that says what the number means and what to do.
+/// It shows itself as a sentence that says what the number means and what to do, and as what it is of.
+/// A refusal equals itself, one of a NaN too: see [`Asked`].
+///
+/// ```
+/// use climboat::{property, Property, Region};
+///
+/// let refusal = property(Region::One, Property::Volume, 0.1, 400.0).unwrap_err();
+/// assert!(refusal.to_string().starts_with("refused by 3: the pressure is out of range"));
+/// assert!(refusal.to_string().ends_with("; of region 1, p = 0.1 MPa, T = 400.0 K, where v was asked for"));
+///
+/// let refusal = property(Region::One, Property::Volume, f64::NAN, 400.0).unwrap_err();
+/// assert_eq!(refusal, refusal);
+/// ```
 #[non_exhaustive]
 #[derive(Clone, Copy, Debug, PartialEq)]
 pub struct Refusal {
+    /// What the refusal is of.
+    pub asked: Asked,
     /// The number of document 01's table, or 21.
     pub number: u32,
     /// The last point for 8, else 0.
     pub value: f64,
     /// The steps taken for 6, 8 and 10, else 0.
     pub steps: u32,
-    /// The last bracket for 6, 8 and 10, else 0 and 0.
+    /// The last bracket for 6, 8 and 10, else 0 and 0, as are its residuals. For 6 a residual that is not finite is given as 0.
     pub bracket: Bracket,
 }
 
@@ -193,16 +235,19 @@ impl Refusal {
 
 impl fmt::Display for Refusal {
     fn fmt(&self, f: &mut fmt::Formatter<'_>) -> fmt::Result {
+        let (asked, wanted, bracket) = (self.asked, self.asked.wanted(), self.bracket);
         write!(f, "refused by {}: {}", self.number, self.sentence())?;
+        write!(f, "; of {asked}, where {} was asked for", wanted.symbol)?;
         if self.has_bracket() {
-            write!(
-                f,
-                "; steps {}, bracket {:?} to {:?}",
-                self.steps, self.bracket.lower, self.bracket.upper
-            )?;
+            write!(f, "; steps {}", self.steps)?;
+            let (lower, upper) = (bracket.lower, bracket.upper);
+            write!(f, ", bracket {lower:?} to {upper:?} {}", wanted.unit)?;
+            let (lower, upper) = (bracket.lower_residual, bracket.upper_residual);
+            let unit = asked.residual_unit();
+            write!(f, ", residuals {lower:?} and {upper:?} {unit}")?;
         }
         if let Some(point) = self.last_point() {
-            write!(f, ", last point {point:?}")?;
+            write!(f, ", last point {point:?} {}", wanted.unit)?;
         }
         Ok(())
     }
@@ -213,11 +258,18 @@ impl std::error::Error for Refusal {}
 impl Record {
     /// The record as an answer or a refusal.
     pub fn read(self) -> Result<Reading, Refusal> {
-        let [number, reason, steps, mark] = self.numbers;
-        let [value, lower, upper] = self.doubles;
-        let bracket = Bracket { lower, upper };
+        let asked = self.asked();
+        let [number, reason, steps, mark, ..] = self.numbers;
+        let [value, lower, upper, lower_residual, upper_residual, ..] = self.doubles;
+        let bracket = Bracket {
+            lower,
+            upper,
+            lower_residual,
+            upper_residual,
+        };
         if number != 0 {
             return Err(Refusal {
+                asked,
                 number,
                 value,
                 steps,
@@ -228,22 +280,18 @@ impl Record {
             2 => Reason::ExactEnd,
             3 => Reason::SmallResidual,
             4 => Reason::Narrow,
-            _ => {
-                return Ok(Reading {
-                    value,
-                    reason: Reason::Value,
-                    search: None,
-                })
-            }
+            _ => Reason::Value,
+        };
+        let search = Search {
+            steps,
+            bracket,
+            inside: mark == 1,
         };
         Ok(Reading {
+            asked,
             value,
             reason,
-            search: Some(Search {
-                steps,
-                bracket,
-                inside: mark == 1,
-            }),
+            search: (reason != Reason::Value).then_some(search),
         })
     }
 }
@@ -253,9 +301,10 @@ mod tests {
     use super::*;
 
     fn refusal(number: u32) -> Refusal {
+        // region 2 (T,s)
         let record = Record {
-            numbers: [number, 0, 3, 0],
-            doubles: [1.5, 1.0, 2.0],
+            numbers: [number, 0, 3, 0, 2, 9, 0, 0],
+            doubles: [1.5, 1.0, 2.0, 0.25, -0.5, 500.0, 7.2, 0.0],
         };
         record.read().unwrap_err()
     }
@@ -291,19 +340,28 @@ mod tests {
     }
 
     #[test]
-    fn steps_and_bracket_are_shown_where_the_table_gives_them() {
+    fn what_it_is_of_is_shown_behind_the_sentence() {
+        for number in (1..=11).chain([21]) {
+            let start = format!("refused by {number}: {}", refusal(number).sentence());
+            let of = "; of region 2, T = 500.0 K, s = 7.2 kJ/(kg K), where p was asked for";
+            let shown = refusal(number).to_string();
+            assert!(shown.starts_with(&(start + of)), "{shown}");
+            // in a line of a log this is where it begins
+            assert_eq!(shown.matches("; of ").count(), 1, "{shown}");
+        }
+    }
+
+    #[test]
+    fn steps_bracket_and_residuals_are_shown_where_the_table_gives_them() {
         for number in (1..=11).chain([21]) {
             let shown = refusal(number).to_string();
-            assert_eq!(
-                shown.ends_with("; steps 3, bracket 1.0 to 2.0"),
-                [6, 10].contains(&number),
-                "{shown}"
-            );
-            assert_eq!(
-                shown.ends_with("; steps 3, bracket 1.0 to 2.0, last point 1.5"),
-                number == 8,
-                "{shown}"
-            );
+            let rest = match number {
+                6 | 10 => "; steps 3, bracket 1.0 to 2.0 MPa, residuals 0.25 and -0.5 kJ/(kg K)",
+                8 => "; steps 3, bracket 1.0 to 2.0 MPa, residuals 0.25 and -0.5 kJ/(kg K), last point 1.5 MPa",
+                _ => "",
+            };
+            let end = format!(" was asked for{rest}");
+            assert!(shown.ends_with(&end), "{shown}");
         }
     }
 

@@ -1,4 +1,5 @@
 //! What a caller chooses: the region, the property, and the pair of a search.
+use crate::asked::{Kind, Quantity};
 
 /// The region, always named by the caller.
 ///
@@ -58,7 +59,7 @@ impl Property {
     ];
 
     /// The property's symbol: `v`, `u`, `s`, `h`, `cp`, `cv` or `w`.
-    pub fn symbol(self) -> &'static str {
+    pub const fn symbol(self) -> &'static str {
         match self {
             Property::Volume => "v",
             Property::InternalEnergy => "u",
@@ -71,7 +72,7 @@ impl Property {
     }
 
     /// The property's unit.
-    pub fn unit(self) -> &'static str {
+    pub const fn unit(self) -> &'static str {
         match self {
             Property::Volume => "m^3/kg",
             Property::InternalEnergy | Property::Enthalpy => "kJ/kg",
@@ -80,8 +81,13 @@ impl Property {
         }
     }
 
-    /// The number that stands for the property in the archive's calls.
-    pub(crate) fn number(self) -> u32 {
+    /// The property's symbol and unit together.
+    pub const fn quantity(self) -> Quantity {
+        Quantity::new(self.symbol(), self.unit())
+    }
+
+    /// The number that stands for the property in the archive's calls and records.
+    pub fn number(self) -> u32 {
         match self {
             Property::Volume => 1,
             Property::InternalEnergy => 2,
@@ -122,19 +128,30 @@ impl Pair {
         }
     }
 
+    /// The kind of the call that searches by this pair.
+    ///
+    /// ```
+    /// use climboat::Pair;
+    ///
+    /// let symbols: Vec<&str> = Pair::Tv.kind().inputs().iter().map(|input| input.symbol).collect();
+    /// assert_eq!((symbols.as_slice(), Pair::Tv.found()), (["T", "v"].as_slice(), "p"));
+    /// ```
+    pub fn kind(self) -> Kind {
+        match self {
+            Pair::Pv => Kind::Pv,
+            Pair::Tv => Kind::Tv,
+            Pair::Th => Kind::Th,
+            Pair::Ts => Kind::Ts,
+        }
+    }
+
     /// The symbol of what is found: `T` or `p`.
     pub fn found(self) -> &'static str {
-        match self {
-            Pair::Pv => "T",
-            Pair::Tv | Pair::Th | Pair::Ts => "p",
-        }
+        self.kind().found().symbol
     }
 
     /// The unit of what is found, and of its bracket.
     pub fn unit(self) -> &'static str {
-        match self {
-            Pair::Pv => "K",
-            Pair::Tv | Pair::Th | Pair::Ts => "MPa",
-        }
+        self.kind().found().unit
     }
 }

@@ -20,24 +20,28 @@
 //! # Ok::<(), climboat::Refusal>(())
 //! ```
 //!
-//! A refusal is an error with a sentence:
+//! A refusal is an error with a sentence. It says what it is of, as a reading does: the field `asked` is what the archive wrote down of the call, not what the caller remembers.
 //!
 //! ```
-//! use climboat::{property, Cause, Property, Region};
+//! use climboat::{property, Cause, Kind, Property, Region};
 //!
 //! let refusal = property(Region::Two, Property::Volume, 0.0, 300.0).unwrap_err();
 //! assert_eq!(refusal.number, 3);
 //! assert_eq!(refusal.cause(), Cause::PressureOutOfRange);
 //! assert!(refusal.to_string().starts_with("refused by 3: the pressure is out of range"));
+//! assert_eq!((refusal.asked.kind, refusal.asked.first), (Kind::PT, 0.0));
+//! assert_eq!(refusal.asked.to_string(), "region 2, p = 0.0 MPa, T = 300.0 K");
 //! ```
 #![deny(missing_docs)]
 #![deny(unsafe_code)]
 
 mod answer;
 mod archive;
+mod asked;
 mod choices;
 
 pub use answer::{Bracket, Cause, Reading, Reason, Refusal, Search};
+pub use asked::{Asked, Kind, Quantity};
 pub use choices::{Pair, Property, Region};
 
 /// The version of Climboat.

@@ -6,17 +6,23 @@ use run::{command, run, Run};
 use std::process::Stdio;
 
 /// The lines that a search's answer takes.
-fn searched(symbol: &str, unit: &str, reading: Reading) -> String {
+fn searched(symbol: &str, unit: &str, residual_unit: &str, reading: Reading) -> String {
     let search = reading.search.unwrap();
-    let bracket = format!(
-        "{:?} to {:?} {unit}",
-        search.bracket.lower, search.bracket.upper
-    );
-    let inside = if search.inside { "yes" } else { "no" };
-    format!(
-        "{symbol} = {:?} {unit}\nreason:            {}\nsteps:             {}\nbracket:           {bracket}\ninside the region: {inside}\n",
-        reading.value, reading.reason, search.steps
-    )
+    let Bracket { lower, upper, .. } = search.bracket;
+    let (at_lower, at_upper) = (search.bracket.lower_residual, search.bracket.upper_residual);
+    let lines = [
+        format!("{symbol} = {:?} {unit}", reading.value),
+        format!("of {}", reading.asked),
+        format!("reason:            {}", reading.reason),
+        format!("steps:             {}", search.steps),
+        format!("bracket:           {lower:?} to {upper:?} {unit}"),
+        format!("residuals:         {at_lower:?} and {at_upper:?} {residual_unit}"),
+        format!(
+            "inside the region: {}\n",
+            if search.inside { "yes" } else { "no" }
+        ),
+    ];
+    lines.join("\n")
 }
 
 #[track_caller]
@@ -26,52 +32,44 @@ fn answers(line: &str, expected: String) {
 }
 
 #[test]
-fn a_property_is_one_line() {
+fn a_property_is_two_lines() {
     for (region, p, t) in [(Region::One, 3.0, 300.0), (Region::Two, 0.0035, 700.0)] {
         for &of in Property::ALL {
             let value = property(region, of, p, t).unwrap().value;
             answers(
                 &format!("{} pT {} {p} {t}", region.number(), of.symbol()),
-                format!("{} = {value:?} {}\n", of.symbol(), of.unit()),
+                format!(
+                    "{} = {value:?} {}\nof region {}, p = {p:?} MPa, T = {t:?} K\n",
+                    of.symbol(),
+                    of.unit(),
+                    region.number()
+                ),
             );
         }
     }
     assert_eq!(
         run("1 pT v 3 300").out,
-        "v = 0.0010021516796866943 m^3/kg\n"
+        "v = 0.0010021516796866943 m^3/kg\nof region 1, p = 3.0 MPa, T = 300.0 K\n"
     );
 }
 
 #[test]
-fn a_search_is_five_lines() {
-    answers(
-        "1 pv 3 0.001",
-        searched("T", "K", pv2t(Region::One, 3.0, 0.001, STEP_LIMIT).unwrap()),
-    );
-    answers(
-        "1 Tv 500 0.0012",
-        searched(
-            "p",
-            "MPa",
-            tv2p(Region::One, 500.0, 0.0012, STEP_LIMIT).unwrap(),
-        ),
-    );
-    answers(
-        "2 Th 600 3000",
-        searched(
-            "p",
-            "MPa",
-            th2p(Region::Two, 600.0, 3000.0, STEP_LIMIT).unwrap(),
-        ),
-    );
-    answers(
-        "2 Ts 500 7.2 --limit 40",
-        searched("p", "MPa", ts2p(Region::Two, 500.0, 7.2, 40).unwrap()),
-    );
-    answers(
-        "--limit 40 2 Ts 500 7.2",
-        run("2 Ts 500 7.2 --limit 40").out,
-    );
+fn a_search_is_seven_lines() {
+    let pv = pv2t(Region::One, 3.0, 0.001, STEP_LIMIT).unwrap();
+    answers("1 pv 3 0.001", searched("T", "K", "(relative)", pv));
+    let pv = pv2t(Region::Two, 1.0, 0.3, STEP_LIMIT).unwrap();
+    answers("2 pv 1 0.3", searched("T", "K", "m^3/kg", pv));
+    let tv = tv2p(Region::One, 500.0, 0.0012, STEP_LIMIT).unwrap();
+    answers("1 Tv 500 0.0012", searched("p", "MPa", "m^3/kg", tv));
+    let tv = tv2p(Region::Two, 500.0, 0.1, STEP_LIMIT).unwrap();
+    answers("2 Tv 500 0.1", searched("p", "MPa", "(relative)", tv));
+    let th = th2p(Region::Two, 600.0, 3000.0, STEP_LIMIT).unwrap();
+    answers("2 Th 600 3000", searched("p", "MPa", "kJ/kg", th));
+    let ts = ts2p(Region::Two, 500.0, 7.2, 40).unwrap();
+    let expected = searched("p", "MPa", "kJ/(kg K)", ts);
+    assert_eq!(expected.lines().count(), 7);
+    answers("2 Ts 500 7.2 --limit 40", expected.clone());
+    answers("--limit 40 2 Ts 500 7.2", expected);
     assert!(run("2 Th 300 2500")
         .out
         .ends_with("\ninside the region: no\n"));
@@ -79,65 +77,69 @@ fn a_search_is_five_lines() {
 
 #[test]
 fn the_lines_of_the_release() {
-    answers(
-        "sat T 1",
-        format!("T = {:?} K\n", saturation_temperature(1.0).unwrap().value),
-    );
-    answers(
-        "sat p 500",
-        format!("p = {:?} MPa\n", saturation_pressure(500.0).unwrap().value),
-    );
-    answers(
-        "b23 p 700",
-        format!("p = {:?} MPa\n", b23_pressure(700.0).unwrap().value),
-    );
-    answers(
-        "b23 T 50",
-        format!("T = {:?} K\n", b23_temperature(50.0).unwrap().value),
-    );
+    #[rustfmt::skip]
+    let lines = [
+        ("sat T 1", "T", saturation_temperature(1.0), "K\nof the saturation line, p = 1.0 MPa"),
+        ("sat p 500", "p", saturation_pressure(500.0), "MPa\nof the saturation line, T = 500.0 K"),
+        ("b23 p 700", "p", b23_pressure(700.0), "MPa\nof B23, T = 700.0 K"),
+        ("b23 T 50", "T", b23_temperature(50.0), "K\nof B23, p = 50.0 MPa"),
+    ];
+    for (line, symbol, answer, rest) in lines {
+        let value = answer.unwrap().value;
+        answers(line, format!("{symbol} = {value:?} {rest}\n"));
+    }
 }
 
 #[test]
 fn a_refusal_is_on_standard_output_with_status_1() {
+    #[rustfmt::skip]
     let refusals = [
-        ("1 pT v NaN 300", 1),
-        ("1 pT v inf 300", 1),
-        ("2 Ts 500 -inf", 1),
-        ("1 pT v 1e999 300", 1),
-        ("1 pT v 3 700", 2),
-        ("sat p 273", 2),
-        ("2 pT v 0 300", 3),
-        ("b23 T -5", 3),
-        ("2 pv 1 0", 4),
-        ("1 pv 0.000611212677444 0.001", 5),
-        ("1 pv 0.1 0.00100015", 7),
-        ("1 pv 3 0.001 --limit 20001", 11),
-        ("1 pv 3 0.001 --limit 99999999999999999999", 11),
+        ("1 pT v NaN 300", 1, "region 1, p = NaN MPa, T = 300.0 K, where v"),
+        ("1 pT cp inf 300", 1, "region 1, p = inf MPa, T = 300.0 K, where cp"),
+        ("2 Ts 500 -inf", 1, "region 2, T = 500.0 K, s = -inf kJ/(kg K), where p"),
+        ("1 pT v 1e999 300", 1, "region 1, p = inf MPa, T = 300.0 K, where v"),
+        ("1 pT w 3 700", 2, "region 1, p = 3.0 MPa, T = 700.0 K, where w"),
+        ("sat p 273", 2, "the saturation line, T = 273.0 K, where p"),
+        ("2 pT v -0 300", 3, "region 2, p = -0.0 MPa, T = 300.0 K, where v"),
+        ("b23 T -5", 3, "B23, p = -5.0 MPa, where T"),
+        ("2 pv 1 0", 4, "region 2, p = 1.0 MPa, v = 0.0 m^3/kg, where T"),
+        ("1 pv 0.000611212677444 0.001", 5, "region 1, p = 0.000611212677444 MPa, v = 0.001 m^3/kg, where T"),
+        ("1 pv 0.1 0.00100015", 7, "region 1, p = 0.1 MPa, v = 0.00100015 m^3/kg, where T"),
+        ("2 Th 300 1e300", 7, "region 2, T = 300.0 K, h = 1e300 kJ/kg, where p"),
+        ("1 pv 3 0.001 --limit 20001", 11, "region 1, p = 3.0 MPa, v = 0.001 m^3/kg, where T"),
+        ("1 Tv 3 0.001 --limit 99999999999999999999", 11, "region 1, T = 3.0 K, v = 0.001 m^3/kg, where p"),
     ];
-    for (line, number) in refusals {
+    for (line, number, of) in refusals {
         let Run { status, out, err } = run(line);
         assert_eq!((status, err.as_str()), (1, ""), "{line}");
+        let (first, second) = out.split_once('\n').unwrap();
         assert!(
-            out.starts_with(&format!("refused by {number}: ")) && out.lines().count() == 1,
+            first.starts_with(&format!("refused by {number}: ")),
             "{line}: {out}"
         );
+        assert_eq!(second, format!("of {of} was asked for\n"), "{line}");
     }
 }
 
 #[test]
 fn a_refusal_shows_the_steps_and_the_bracket_that_it_carries() {
     let refusal = ts2p(Region::Two, 500.0, 7.2, 2).unwrap_err();
-    let expected = format!(
-        "refused by 8: {}\nsteps:      2\nbracket:    {:?} to {:?} MPa\nlast point: {:?} MPa\n",
-        refusal.sentence(),
-        refusal.bracket.lower,
-        refusal.bracket.upper,
-        refusal.value
-    );
-    assert_eq!(run("2 Ts 500 7.2 --limit 2").out, expected);
-    assert!(run("2 Tv 500 5e-324")
-        .out
-        .ends_with("\nsteps:   0\nbracket: 1e-8 to 100.0 MPa\n"));
+    let (ends, value) = (refusal.bracket, refusal.value);
+    let lines = [
+        format!("refused by 8: {}", refusal.sentence()),
+        format!("of {}, where p was asked for", refusal.asked),
+        "steps:      2".to_string(),
+        format!("bracket:    {:?} to {:?} MPa", ends.lower, ends.upper),
+        format!(
+            "residuals:  {:?} and {:?} kJ/(kg K)",
+            ends.lower_residual, ends.upper_residual
+        ),
+        format!("last point: {value:?} MPa\n"),
+    ];
+    assert_eq!(run("2 Ts 500 7.2 --limit 2").out, lines.join("\n"));
+    assert!(run("2 Tv 500 5e-324").out.ends_with(
+        "\nsteps:     0\nbracket:   1e-8 to 100.0 MPa\nresiduals: 0.0 and 0.0 (relative)\n"
+    ));
 }
 
 /// Command lines that are wrong, and what is said of them.
@@ -216,31 +218,61 @@ fn bits(x: f64) -> String {
     format!("{:016x}", x.to_bits())
 }
 
-/// The doubles of an answer's first line and of its bracket, as they are written.
-fn doubles(out: &str) -> Vec<&str> {
-    let words = |line: usize| out.lines().nth(line).unwrap().split_whitespace();
-    words(0)
-        .skip(2)
-        .take(1)
-        .chain(words(3).skip(1).step_by(2).take(2))
+/// What the command prints, with the bits of every double in it in the double's place.
+fn in_bits(out: &str) -> String {
+    let word = |word: &str| match word.parse() {
+        Ok(double) => bits(double),
+        Err(_) => word.to_string(),
+    };
+    let words = |line: &str| line.split(' ').map(word).collect::<Vec<_>>().join(" ");
+    out.lines()
+        .map(|line| match line.starts_with("steps: ") {
+            true => format!("{line}\n"),
+            false => words(line) + "\n",
+        })
         .collect()
 }
 
 #[test]
 fn bits_both_ways() {
-    for (start, first, second) in [("1 pv", 3.0, 0.001), ("2 Ts", 500.0, 7.2)] {
-        let exact = run(&format!("{start} {} {} --bits", bits(first), bits(second))).out;
-        let decimal = run(&format!("{start} {first} {second}")).out;
+    for (start, inputs, limit) in [
+        ("1 pT v", &[3.0, 300.0][..], ""),
+        ("sat T", &[1.0], ""),
+        ("1 pv", &[3.0, 0.001], ""),
+        ("2 Ts", &[500.0, 7.2], ""),
+        ("2 Ts", &[500.0, 7.2], " --limit 2"),
+        ("2 Tv", &[500.0, -0.0], ""),
+    ] {
+        let written = |double: fn(f64) -> String| {
+            let words: Vec<String> = inputs.iter().map(|&x| double(x)).collect();
+            format!("{start} {}{limit}", words.join(" "))
+        };
+        let exact = run(&format!("{} --bits", written(bits))).out;
         // the shortest decimal reads back as the same double
-        let read = doubles(&decimal)
-            .into_iter()
-            .map(|word| bits(word.parse().unwrap()));
-        assert_eq!(doubles(&exact), read.collect::<Vec<_>>());
-        let upper = format!("{} {}", bits(first), bits(second)).to_uppercase();
-        assert_eq!(run(&format!("--bits {start} {upper}")).out, exact);
+        assert_eq!(exact, in_bits(&run(&written(|x| format!("{x:?}"))).out));
+        let upper = written(|x| bits(x).to_uppercase());
+        assert_eq!(run(&format!("--bits {upper}")).out, exact);
     }
-    let nan = run("--bits 1 pT v 7ff8000000000000 4072c00000000000").out;
-    assert!(nan.starts_with("refused by 1: "), "{nan}");
+}
+
+#[test]
+fn bits_give_back_the_bits_of_a_nan() {
+    for nan in ["7ff0000000000001", "7ff8000000000000", "fff8000000000123"] {
+        let property = run(&format!("--bits 1 pT v {nan} 4072c00000000000")).out;
+        let of = format!(
+            "\nof region 1, p = {nan} MPa, T = 4072c00000000000 K, where v was asked for\n"
+        );
+        assert!(
+            property.starts_with("refused by 1: ") && property.ends_with(&of),
+            "{property}"
+        );
+        let line = run(&format!("--bits b23 p {nan}")).out;
+        let of = format!("\nof B23, T = {nan} K, where p was asked for\n");
+        assert!(
+            line.starts_with("refused by 1: ") && line.ends_with(&of),
+            "{line}"
+        );
+    }
 }
 
 #[test]
@@ -268,6 +300,8 @@ fn help_and_nothing() {
         "--limit",
         "--diagram",
         "--version",
+        "what it is of",
+        "residuals",
         "Exit status",
     ] {
         assert!(help.out.contains(word), "{word}");

@@ -13,35 +13,60 @@ fn stored(name: &str) -> &'static str {
         .1
 }
 
+fn bits(x: f64) -> String {
+    format!("{:016x}", x.to_bits())
+}
+
+fn ends(bracket: Bracket) -> String {
+    format!(
+        "bracket {} {}, residuals {} {}",
+        bits(bracket.lower),
+        bits(bracket.upper),
+        bits(bracket.lower_residual),
+        bits(bracket.upper_residual)
+    )
+}
+
+/// What an answer is of. Only here can there be a NaN, which is written as such.
+fn of(asked: Asked) -> String {
+    let input = |x: f64| {
+        if x.is_nan() {
+            return "NaN".to_string();
+        }
+        bits(x)
+    };
+    format!(
+        "kind {}, region {}, property {}, inputs {} {}",
+        asked.kind.number(),
+        asked.region.map_or(0, Region::number),
+        asked.property.map_or(0, Property::number),
+        input(asked.first),
+        input(asked.second)
+    )
+}
+
 /// An answer in the words of `edges`.
 fn told(answer: Result<Reading, Refusal>) -> String {
-    let bits = |x: f64| format!("{:016x}", x.to_bits());
-    let ends =
-        |bracket: Bracket| format!("bracket {} {}", bits(bracket.lower), bits(bracket.upper));
-    match answer {
-        Err(no) => format!(
-            "refused {}, value {}, steps {}, {}",
-            no.number,
-            bits(no.value),
-            no.steps,
-            ends(no.bracket)
-        ),
-        Ok(Reading {
-            value,
-            reason,
-            search: Some(search),
-            ..
-        }) => {
-            let mark = if search.inside { "inside" } else { "outside" };
-            format!(
-                "{reason} {}, steps {}, {}, {mark}",
-                bits(value),
-                search.steps,
-                ends(search.bracket)
-            )
+    let (said, asked) = match answer {
+        Err(no) => {
+            let (value, bracket) = (bits(no.value), ends(no.bracket));
+            let said = format!(
+                "refused {}, value {value}, steps {}, {bracket}",
+                no.number, no.steps
+            );
+            (said, no.asked)
         }
-        Ok(Reading { value, reason, .. }) => format!("{reason} {}", bits(value)),
-    }
+        Ok(reading) => {
+            let value = format!("{} {}", reading.reason, bits(reading.value));
+            let said = reading.search.map_or(value.clone(), |search| {
+                let mark = if search.inside { "inside" } else { "outside" };
+                let bracket = ends(search.bracket);
+                format!("{value}, steps {}, {bracket}, {mark}", search.steps)
+            });
+            (said, reading.asked)
+        }
+    };
+    format!("{said}, {}", of(asked))
 }
 
 #[track_caller]

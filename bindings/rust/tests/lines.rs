@@ -36,6 +36,54 @@ fn each_line_is_answered_in_its_place() {
 }
 
 #[test]
+fn a_line_says_what_it_is_of() {
+    #[rustfmt::skip]
+    let lines = [
+        ("1 pT v 3 300", "v = 0.0010021516796866943 m^3/kg; of region 1, p = 3.0 MPa, T = 300.0 K"),
+        ("1 pT v NaN 300", "; of region 1, p = NaN MPa, T = 300.0 K, where v was asked for"),
+        ("sat T 99", "; of the saturation line, p = 99.0 MPa, where T was asked for"),
+        ("--bits b23 p fff0000000000001", "; of B23, T = fff0000000000001 K, where p was asked for"),
+    ];
+    for (line, end) in lines {
+        let out = fed("--lines", line.as_bytes()).out;
+        assert!(out.ends_with(&format!("{end}\n")), "{line}: {out}");
+    }
+}
+
+#[test]
+fn the_parts_of_a_search_stand_on_one_line() {
+    let asked = "2 Ts 500 7.2 --limit 2\n2 Ts 500 7.2\n";
+    let out = fed("--lines", asked.as_bytes()).out;
+    let (refusal, answer) = out.split_once('\n').unwrap();
+    let of = "of region 2, T = 500.0 K, s = 7.2 kJ/(kg K)";
+    let refused = format!("{of}, where p was asked for");
+    let refused = [
+        &refused,
+        "steps: 2",
+        "bracket: ",
+        "residuals: ",
+        "last point: ",
+    ];
+    let answered = [
+        "p = ",
+        of,
+        "reason: ",
+        "steps: ",
+        "bracket: ",
+        "residuals: ",
+        "inside the region: yes",
+    ];
+    // the sentence has a ; of its own
+    for (line, skipped, starts) in [(refusal, 2, &refused[..]), (answer, 0, &answered)] {
+        let parts: Vec<&str> = line.split("; ").skip(skipped).collect();
+        assert_eq!(parts.len(), starts.len(), "{line}");
+        for (part, start) in parts.iter().zip(starts) {
+            assert!(part.starts_with(start), "{start}: {line}");
+        }
+    }
+}
+
+#[test]
 fn the_status_is_that_of_the_worst_line() {
     assert_eq!(fed("--lines", b"").status, 0);
     assert_eq!(fed("--lines", b"sat T 1\n# sat T 99\n\n").status, 0);

@@ -51,12 +51,14 @@ fn assert_refusal(refusal: Refusal, limit: u32) {
         carries,
         "{shown}"
     );
-    if !carries {
-        assert_eq!(
-            (refusal.steps, refusal.bracket.lower, refusal.bracket.upper),
-            (0, 0.0, 0.0),
-            "{shown}"
-        );
+    let bracket = refusal.bracket;
+    let residuals = [bracket.lower_residual, bracket.upper_residual];
+    if carries {
+        assert!(residuals.iter().all(|x| x.is_finite()), "{shown}");
+    } else {
+        let ends = [bracket.lower, bracket.upper];
+        assert_eq!((refusal.steps, ends), (0, [0.0; 2]), "{shown}");
+        assert_eq!(residuals.map(f64::to_bits), [0; 2], "{shown}");
     }
     if refusal.cause() == Cause::StepsSpent {
         assert_eq!(refusal.steps, limit, "{shown}");
@@ -172,44 +174,23 @@ fn the_lines_refuse_by_1_2_or_3() {
 }
 
 #[test]
-fn every_bit_pattern_of_a_nan_is_refused_by_1() {
-    for bits in [
-        0x7ff0_0000_0000_0001,
-        0x7ff8_0000_0000_0000,
-        0xfff8_0000_0000_0000,
-        u64::MAX,
-    ] {
-        let nan = f64::from_bits(bits);
-        assert_eq!(
-            property(Region::One, Property::Volume, nan, 300.0)
-                .unwrap_err()
-                .number,
-            1
-        );
-        assert_eq!(
-            ts2p(Region::Two, 500.0, nan, STEP_LIMIT)
-                .unwrap_err()
-                .number,
-            1
-        );
-    }
-}
-
-#[test]
 fn a_refusal_is_an_error_like_others() {
     fn ask() -> Result<f64, Box<dyn std::error::Error>> {
         Ok(pv2t(Region::One, 3.0, 0.001, 2)?.value)
     }
     let shown = ask().unwrap_err().to_string();
     let refusal = pv2t(Region::One, 3.0, 0.001, 2).unwrap_err();
-    let bracket = format!(
-        "steps 2, bracket {:?} to {:?}, last point {:?}",
-        refusal.bracket.lower, refusal.bracket.upper, refusal.value
+    let bracket = refusal.bracket;
+    let expected = format!(
+        "refused by 8: {}; of region 1, p = 3.0 MPa, v = 0.001 m^3/kg, where T was asked for; steps 2, bracket {:?} to {:?} K, residuals {:?} and {:?} (relative), last point {:?} K",
+        refusal.sentence(),
+        bracket.lower,
+        bracket.upper,
+        bracket.lower_residual,
+        bracket.upper_residual,
+        refusal.value
     );
-    assert_eq!(
-        shown,
-        format!("refused by 8: {}; {bracket}", refusal.sentence())
-    );
+    assert_eq!(shown, expected);
 }
 
 #[test]

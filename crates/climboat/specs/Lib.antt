@@ -1,3 +1,4 @@
 pub mod Names
 pub mod Record
 pub mod Calls
+pub mod EveryCall

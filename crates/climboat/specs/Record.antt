@@ -1,9 +1,13 @@
--- A record: document 01's columns of an answer, the whole numbers in one array of four (number, reason, steps, mark), the doubles in one of three (value, lower end, upper end).
+-- A record: the columns of an answer in two arrays of eight, the whole numbers (number, reason, steps, mark, region, kind, property) and the doubles (value, lower end, upper end, the residuals there,
+-- first and second input). The last place of each is 0: room that no call needs yet.
 use Prim.Native.Nat.{ℕ}
 use mathlib.Core.Bool.{Bool, cond}
 use mathlib.Core.List.{List, [], _∷_}
 use lib.Ieee.{Float}
+use Rattle.float.specs.Sign.{nought}
+use Rattle.vessel.specs.Asked.{regionNumber, kindNumber, propertyNumber}
 use Rattle.vessel.specs.Answer.{Reason, none, plain, exactEnd, smallResidual, narrow, Mark, unmarked, inside, outside, columns}
+use Rattle.vessel.specs.declared.asked.Asked.{Asked}
 use Rattle.vessel.specs.declared.answer.Answer.{Answer}
 
 abbrev pub reasonNumber : Reason → ℕ
@@ -21,8 +25,16 @@ markOf outside = 2
 unfoldable pub markNumber : Bool → ℕ
 markNumber b = markOf (cond b inside outside)
 
+abbrev pub whole : ℕ → ℕ → ℕ → ℕ → Asked → List ℕ
+whole number reason steps mark a =
+    number ∷ (reason ∷ (steps ∷ (mark ∷ (regionNumber (a .region) ∷ (kindNumber (a .kind) ∷ (propertyNumber (a .property) ∷ (0 ∷ [])))))))
+
+abbrev pub fractions : Float → Float → Float → Float → Float → Asked → List Float
+fractions value lower upper lower-residual upper-residual a =
+    value ∷ (lower ∷ (upper ∷ (lower-residual ∷ (upper-residual ∷ (a .first ∷ (a .second ∷ (nought ∷ [])))))))
+
 unfoldable pub numbers : Answer → List ℕ
-numbers a = columns a .number ∷ (reasonNumber (columns a .reason) ∷ (columns a .steps ∷ (markOf (columns a .mark) ∷ [])))
+numbers a = whole (columns a .number) (reasonNumber (columns a .reason)) (columns a .steps) (markOf (columns a .mark)) (columns a .asked)
 
 unfoldable pub doubles : Answer → List Float
-doubles a = columns a .value ∷ (columns a .lower ∷ (columns a .upper ∷ []))
+doubles a = fractions (columns a .value) (columns a .lower) (columns a .upper) (columns a .lower-residual) (columns a .upper-residual) (columns a .asked)

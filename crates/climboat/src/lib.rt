@@ -10,13 +10,13 @@ pub mod record;
 
 // A property by (p,T).
 #[no_mangle]
-pub extern "C" fn climboat_pT_record(
+pub extern "C" fn climboat_pT_columns(
     region: u32,
     property: u32,
     p: f64,
     T: f64,
-    numbers: &mut [u32; 4],
-    doubles: &mut [f64; 3],
+    numbers: &mut [u32; 8],
+    doubles: &mut [f64; 8],
 )
     ensures { λ _. ⌜ now (numbers .exit) ≡ numbersOf (pT region property p T) ⌝ }
     ensures { λ _. ⌜ now (doubles .exit) ≡ doublesOf (pT region property p T) ⌝ }
@@ -28,10 +28,10 @@ pub extern "C" fn climboat_pT_record(
 
 // The pressure of the saturation line at T.
 #[no_mangle]
-pub extern "C" fn climboat_saturation_pressure_record(
+pub extern "C" fn climboat_saturation_pressure_columns(
     T: f64,
-    numbers: &mut [u32; 4],
-    doubles: &mut [f64; 3],
+    numbers: &mut [u32; 8],
+    doubles: &mut [f64; 8],
 )
     ensures { λ _. ⌜ now (numbers .exit) ≡ numbersOf (saturation-pressure T) ⌝ }
     ensures { λ _. ⌜ now (doubles .exit) ≡ doublesOf (saturation-pressure T) ⌝ }
@@ -43,10 +43,10 @@ pub extern "C" fn climboat_saturation_pressure_record(
 
 // The temperature of the saturation line at p.
 #[no_mangle]
-pub extern "C" fn climboat_saturation_temperature_record(
+pub extern "C" fn climboat_saturation_temperature_columns(
     p: f64,
-    numbers: &mut [u32; 4],
-    doubles: &mut [f64; 3],
+    numbers: &mut [u32; 8],
+    doubles: &mut [f64; 8],
 )
     ensures { λ _. ⌜ now (numbers .exit) ≡ numbersOf (saturation-temperature p) ⌝ }
     ensures { λ _. ⌜ now (doubles .exit) ≡ doublesOf (saturation-temperature p) ⌝ }
@@ -58,10 +58,10 @@ pub extern "C" fn climboat_saturation_temperature_record(
 
 // The pressure of B23 at T.
 #[no_mangle]
-pub extern "C" fn climboat_B23_pressure_record(
+pub extern "C" fn climboat_B23_pressure_columns(
     T: f64,
-    numbers: &mut [u32; 4],
-    doubles: &mut [f64; 3],
+    numbers: &mut [u32; 8],
+    doubles: &mut [f64; 8],
 )
     ensures { λ _. ⌜ now (numbers .exit) ≡ numbersOf (B23-pressure T) ⌝ }
     ensures { λ _. ⌜ now (doubles .exit) ≡ doublesOf (B23-pressure T) ⌝ }
@@ -73,10 +73,10 @@ pub extern "C" fn climboat_B23_pressure_record(
 
 // The temperature of B23 at p.
 #[no_mangle]
-pub extern "C" fn climboat_B23_temperature_record(
+pub extern "C" fn climboat_B23_temperature_columns(
     p: f64,
-    numbers: &mut [u32; 4],
-    doubles: &mut [f64; 3],
+    numbers: &mut [u32; 8],
+    doubles: &mut [f64; 8],
 )
     ensures { λ _. ⌜ now (numbers .exit) ≡ numbersOf (B23-temperature p) ⌝ }
     ensures { λ _. ⌜ now (doubles .exit) ≡ doublesOf (B23-temperature p) ⌝ }
@@ -88,13 +88,13 @@ pub extern "C" fn climboat_B23_temperature_record(
 
 // (p,v) to T.
 #[no_mangle]
-pub extern "C" fn climboat_pv2T_record(
+pub extern "C" fn climboat_pv2T_columns(
     region: u32,
     p: f64,
     v: f64,
     limit: u32,
-    numbers: &mut [u32; 4],
-    doubles: &mut [f64; 3],
+    numbers: &mut [u32; 8],
+    doubles: &mut [f64; 8],
 )
     ensures { λ _. ⌜ now (numbers .exit) ≡ numbersOf (pv2T region p v limit) ⌝ }
     ensures { λ _. ⌜ now (doubles .exit) ≡ doublesOf (pv2T region p v limit) ⌝ }
@@ -106,13 +106,13 @@ pub extern "C" fn climboat_pv2T_record(
 
 // (T,v) to p.
 #[no_mangle]
-pub extern "C" fn climboat_Tv2p_record(
+pub extern "C" fn climboat_Tv2p_columns(
     region: u32,
     T: f64,
     v: f64,
     limit: u32,
-    numbers: &mut [u32; 4],
-    doubles: &mut [f64; 3],
+    numbers: &mut [u32; 8],
+    doubles: &mut [f64; 8],
 )
     ensures { λ _. ⌜ now (numbers .exit) ≡ numbersOf (Tv2p region T v limit) ⌝ }
     ensures { λ _. ⌜ now (doubles .exit) ≡ doublesOf (Tv2p region T v limit) ⌝ }
@@ -124,13 +124,13 @@ pub extern "C" fn climboat_Tv2p_record(
 
 // (T,h) to p.
 #[no_mangle]
-pub extern "C" fn climboat_Th2p_record(
+pub extern "C" fn climboat_Th2p_columns(
     region: u32,
     T: f64,
     h: f64,
     limit: u32,
-    numbers: &mut [u32; 4],
-    doubles: &mut [f64; 3],
+    numbers: &mut [u32; 8],
+    doubles: &mut [f64; 8],
 )
     ensures { λ _. ⌜ now (numbers .exit) ≡ numbersOf (Th2p region T h limit) ⌝ }
     ensures { λ _. ⌜ now (doubles .exit) ≡ doublesOf (Th2p region T h limit) ⌝ }
@@ -142,13 +142,13 @@ pub extern "C" fn climboat_Th2p_record(
 
 // (T,s) to p.
 #[no_mangle]
-pub extern "C" fn climboat_Ts2p_record(
+pub extern "C" fn climboat_Ts2p_columns(
     region: u32,
     T: f64,
     s: f64,
     limit: u32,
-    numbers: &mut [u32; 4],
-    doubles: &mut [f64; 3],
+    numbers: &mut [u32; 8],
+    doubles: &mut [f64; 8],
 )
     ensures { λ _. ⌜ now (numbers .exit) ≡ numbersOf (Ts2p region T s limit) ⌝ }
     ensures { λ _. ⌜ now (doubles .exit) ≡ doublesOf (Ts2p region T s limit) ⌝ }

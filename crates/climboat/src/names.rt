@@ -2,21 +2,13 @@
 ghost use mathlib.Core.Path.{_≡_};
 ghost use Rattle.climboat.specs.Names.{regionNamed, pvRegionNamed, propertyNamed};
 use pairs::row::Region;
+use vessel::asked::NamedProperty;
+use vessel::asked::NamedRegion;
 use vessel::pair::PvRegion;
 use vessel::property::Property;
 
-pub enum NamedRegion {
-    Names(Region),
-    Nothing,
-}
-
 pub enum NamedPvRegion {
     Names(PvRegion),
-    Nothing,
-}
-
-pub enum NamedProperty {
-    Names(Property),
     Nothing,
 }
 

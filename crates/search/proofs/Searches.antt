@@ -111,13 +111,16 @@ module _ (f : Float → Float) (low high : Float) (p : T (double low)) (q : T (d
       let g = starts none in
       subst (Signed f) (sym (run-told m f s g limit .at-last)) (nested-last f s (brackets m f s limit) (record { lower-at = refl; upper-at = refl; signs = inl (g .opposite) }) (run-nested m f s g limit))
 
-  -- the outcome
+  -- the outcome, of the steps and whole
+  pub between-run : (m : Method) → None (emptyRow low high ∷ endRows s) → (limit : ℕ) → Owes m f s (run m f s limit)
+  between-run m none limit = run-owes m f s (starts none) limit
+
   pub between-owes : (m : Method) (limit : ℕ) → SearchOwes m f s (between m f low high limit)
   unfolding between
   between-owes m limit =
       decides (SearchOwes m f s) (emptyRow low high ∷ endRows s) (run m f s limit)
       ((λ h. inl refl), ((λ h. inr (inr (inl (refl, refl)))), ((λ zero. (inl refl, zero, refl)), ((λ zero. (inr refl, zero, refl)), ((λ h. inr (inl refl)), tt)))))
-      (λ none. ran m f s (run m f s limit) (run-owes m f s (starts none) limit))
+      (λ none. ran m f s (run m f s limit) (between-run m none limit))
 
   -- by bisection
   pub between-part : (rule : Width) → None (emptyRow low high ∷ endRows s) → (limit : ℕ) → Part rule (run (ByBisection rule) f s limit)

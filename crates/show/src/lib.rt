@@ -1,8 +1,9 @@
-// How results are written: each double as the sixteen digits of its bits, an answer as document 01's columns.
+// How results are written: each double as the sixteen digits of its bits, an answer as its columns.
 use libc::STDOUT_FILENO;
 use search::bracket::Bracket;
 use vessel::answer::Answer;
 use vessel::answer::Found;
+use vessel::asked::Asked;
 
 // Text as it is.
 pub fn write(text: &[u8]) {
@@ -26,12 +27,33 @@ pub fn tell(name: &[u8], x: f64) {
     write(b"\n");
 }
 
-fn steps(n: u32, bracket: Bracket) {
-    write(b", steps ");
+fn number(name: &[u8], n: u32) {
+    write(name);
     io::print_decimal(STDOUT_FILENO, n as u64);
+}
+
+fn steps(n: u32, bracket: Bracket) {
+    number(b", steps ", n);
     write(b", bracket");
     double(bracket.x1);
     double(bracket.x2);
+    write(b", residuals");
+    double(bracket.r1);
+    double(bracket.r2);
+}
+
+// What an answer is of, and the end of its line.
+fn of(asked: Asked) {
+    let kind = asked.kind;
+    let region = asked.region;
+    let property = asked.property;
+    number(b", kind ", kind.number());
+    number(b", region ", region.number());
+    number(b", property ", property.number());
+    write(b", inputs");
+    double(asked.first);
+    double(asked.second);
+    write(b"\n");
 }
 
 fn found(reason: &[u8], f: Found) {
@@ -39,9 +61,9 @@ fn found(reason: &[u8], f: Found) {
     double(f.value);
     steps(f.steps, f.bracket);
     if f.inside {
-        write(b", inside\n");
+        write(b", inside");
     } else {
-        write(b", outside\n");
+        write(b", outside");
     }
 }
 
@@ -49,27 +71,29 @@ fn found(reason: &[u8], f: Found) {
 pub fn answer(name: &[u8], a: Answer) {
     write(name);
     match a {
-        Answer::Value(x) => {
+        Answer::Value(asked, x) => {
             write(b": value");
             double(x);
-            write(b"\n");
+            of(asked);
         }
-        Answer::ExactEnd(f) => {
+        Answer::ExactEnd(asked, f) => {
             found(b": exact end", f);
+            of(asked);
         }
-        Answer::SmallResidual(f) => {
+        Answer::SmallResidual(asked, f) => {
             found(b": small residual", f);
+            of(asked);
         }
-        Answer::Narrow(f) => {
+        Answer::Narrow(asked, f) => {
             found(b": narrow", f);
+            of(asked);
         }
-        Answer::Refused(r) => {
-            write(b": refused ");
-            io::print_decimal(STDOUT_FILENO, r.number as u64);
+        Answer::Refused(asked, r) => {
+            number(b": refused ", r.number);
             write(b", value");
             double(r.value);
             steps(r.steps, r.bracket);
-            write(b"\n");
+            of(asked);
         }
     }
 }

@@ -34,7 +34,7 @@ use Rattle.pairs.specs.declared.row.Region.the-variants.{One, Two}
 use Rattle.pairs.specs.declared.row.Pair.the-variants.{Pv1, Tv1, Th1, Ts1, Pv2, Tv2, Th2, Ts2}
 use Rattle.pairs.specs.declared.question.Question.{Question}
 use Rattle.vessel.specs.Answer.{Reason, none, plain, exactEnd, smallResidual, narrow, Columns, columns, answered, valueOf}
-use Rattle.vessel.specs.Searches.{largestLimit, checks, outcome, mark, search as searchOf, pv2T, Tv2p, Th2p, Ts2p}
+use Rattle.vessel.specs.Searches.{largestLimit, checks, outcome, mark, asked, search as searchOf, pv2T, Tv2p, Th2p, Ts2p}
 use Rattle.vessel.specs.Demand.{Early, reported, OwesBy, Owes, Nearer, PvNearer, TvNearer, bracketsOf, Keeps}
 use Rattle.vessel.specs.declared.pair.PvRegion.the-variants.{One as One', Two as Two'}
 
@@ -56,7 +56,7 @@ whole-ends : (rule : Width) (f : Float → Float) (b : Bracket) → whole rule b
 whole-ends Millionth f b = refl
 whole-ends MillionthOfUpper f b = refl
 
-lifted : (q : Question) (o : Outcome) (inside : Bool) → SearchOwes (rowOf q .method) (residual q) (start q) o → Owes q (columns (answered o inside))
+lifted : (q : Question) (o : Outcome) (inside : Bool) → SearchOwes (rowOf q .method) (residual q) (start q) o → Owes q (columns (answered (asked q) o inside))
 unfolding answered
 lifted q (ExactEnd x b) inside (at, zero, same) = (at, zero, (ap (λ (w : Bracket). w .x1) same, ap (λ (w : Bracket). w .x2) same))
 lifted q (SmallResidual x n b) inside h = (h .0, lying q b x (h .1))
@@ -68,7 +68,7 @@ lifted q (Refused k x n b) inside (inr (inl seven)) = inl (inr (inr (inr (inr (i
 lifted q (Refused k x n b) inside (inr (inr (inl (six, same)))) = inr (inl six, inl (ap (λ (w : Bracket). w .x1) same, ap (λ (w : Bracket). w .x2) same))
 lifted q (Refused k x n b) inside (inr (inr (inr (late, h)))) = inr (late, inr (carried q b h))
 
-out-of-range : (range : Range) → Early (numberOf range)
+pub out-of-range : (range : Range) → Early (numberOf range)
 unfolding numberOf
 out-of-range range = pick (ofPressures range)
   where
@@ -88,7 +88,7 @@ owes q limit =
     last-of = search.between (rowOf q .method) (residual q) (place (lowerEnd q)) (place (upperEnd q)) limit
 
     Owed : Outcome → Type 0
-    Owed o = Owes q (columns (answered o (mark q (valueOf (outcome q limit)))))
+    Owed o = Owes q (columns (answered (asked q) o (mark q (valueOf (outcome q limit)))))
 
     nine : Owed (refused 9)
     nine = inl (inr (inr (inr (inr (inr (inl refl))))))
@@ -98,7 +98,7 @@ owes q limit =
         lifted q last-of (mark q (valueOf (outcome q limit))) (between-owes (residual q) (place (lowerEnd q)) (place (upperEnd q)) (lower-double q low) (upper-double q high) (rowOf q .method) limit)
 
 -- ---- where no row of the list holds: the brackets, and that answers report them
-reported-ends : (q : Question) (o : Outcome) (inside : Bool) → Signed (residual q) (reportedIn o) → reported q (columns (answered o inside)) ≡ reportedIn o
+reported-ends : (q : Question) (o : Outcome) (inside : Bool) → Signed (residual q) (reportedIn o) → reported q (columns (answered (asked q) o inside)) ≡ reportedIn o
 unfolding answered
 reported-ends q (ExactEnd v b) inside h = rw (← (h .lower-at), ← (h .upper-at))
 reported-ends q (SmallResidual v n b) inside h = rw (← (h .lower-at), ← (h .upper-at))
@@ -185,7 +185,7 @@ module _ (q : Question) (rule : Width) (same : rowOf q .method ≡ ByBisection r
   PartBy smallResidual d = Prim.Unit {0}
   PartBy narrow d = distance (d .lower) (d .upper) * 1000000 < whole rule (reported q d)
 
-  in-columns : (o : Outcome) (inside : Bool) → Part rule o → PartBy (columns (answered o inside) .reason) (columns (answered o inside))
+  in-columns : (o : Outcome) (inside : Bool) → Part rule o → PartBy (columns (answered (asked q) o inside) .reason) (columns (answered (asked q) o inside))
   unfolding answered
   in-columns (ExactEnd v b) inside h = tt
   in-columns (SmallResidual v n b) inside h = tt

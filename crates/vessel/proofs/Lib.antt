@@ -2,3 +2,5 @@ pub mod Numbers
 pub mod Demand
 pub mod Readings
 pub mod OneOutcome
+pub mod EveryCall
+pub mod Residuals

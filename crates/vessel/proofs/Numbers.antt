@@ -17,11 +17,14 @@ use Rattle.search.specs.declared.bracket.Outcome.the-variants.{ExactEnd, SmallR
 use Rattle.search.specs.Decision.{Row, _⇒_, decided}
 use Rattle.pairs.specs.Pairs.{steps, start}
 use Rattle.pairs.specs.declared.question.Question.{Question}
+use Rattle.vessel.specs.Asked.{onLine}
 use Rattle.vessel.specs.Answer.{refused, line, answered, valueOf}
 use Rattle.vessel.specs.Range.{rule, refusal}
-use Rattle.vessel.specs.Calls.{formula, property, lineChecks, saturation-pressure, saturation-temperature, B23-pressure, B23-temperature}
-use Rattle.vessel.specs.Searches.{checks, outcome, mark, search as searchOf}
+use Rattle.vessel.specs.Calls.{formula, asksFor, propertyChecks, property, lineChecks, saturation-pressure, saturation-temperature, B23-pressure, B23-temperature}
+use Rattle.vessel.specs.Searches.{checks, outcome, mark, asked, search as searchOf}
 use Rattle.vessel.specs.Table.{Given, Exactly, numberOf, numberIn}
+use Rattle.vessel.specs.declared.asked.Asked.{Asked}
+use Rattle.vessel.specs.declared.asked.Kind.the-variants.{SaturationPressure, SaturationTemperature, B23Pressure, B23Temperature}
 use Rattle.vessel.specs.declared.answer.Answer.the-variants.{Value}
 use Rattle.pairs.specs.declared.row.Region.{Region}
 use Rattle.vessel.specs.declared.property.Property.{Property}
@@ -43,16 +46,16 @@ module _ {A : Type 0} (number : A → ℕ) (n : ℕ) where
 
 -- ---- the calls
 -- a search: the number in its columns
-number-kept : (o : Outcome) (inside : Bool) → numberOf (answered o inside) ≡ numberIn o
+number-kept : (a : Asked) (o : Outcome) (inside : Bool) → numberOf (answered a o inside) ≡ numberIn o
 unfolding answered
-number-kept (ExactEnd x b) inside = refl
-number-kept (SmallResidual x n b) inside = refl
-number-kept (Narrow x n b) inside = refl
-number-kept (Refused k x n b) inside = refl
+number-kept a (ExactEnd x b) inside = refl
+number-kept a (SmallResidual x n b) inside = refl
+number-kept a (Narrow x n b) inside = refl
+number-kept a (Refused k x n b) inside = refl
 
 pub search-number : (q : Question) (limit n : ℕ) → Exactly numberIn (numberOf (searchOf q limit)) n (checks q limit) (steps q (start q) limit)
 unfolding searchOf outcome
-search-number q limit n = rw (number-kept (outcome q limit) (mark q (valueOf (outcome q limit)))) (exactly numberIn n (checks q limit) (steps q (start q) limit))
+search-number q limit n = rw (number-kept (asked q) (outcome q limit) (mark q (valueOf (outcome q limit)))) (exactly numberIn n (checks q limit) (steps q (start q) limit))
 
 -- the (p,T) rule
 pub rule-number : (region : Region) (p T : Float) (n : ℕ) → Exactly (λ k. k) (refusal region p T) n (rule region p T) 0
@@ -61,37 +64,39 @@ rule-number region p T n = exactly (λ k. k) n (rule region p T) 0
 
 -- a property: the rule's number, then 9
 pub property-number : (region : Region) (q : Property) (p T : Float) (n : ℕ)
-    → Exactly numberOf (numberOf (property region q p T)) n ((not (eqb (refusal region p T) 0) ⇒ refused (refusal region p T)) ∷ ((not (finite (formula region q p T)) ⇒ refused 9) ∷ [])) (Value (formula region q p T))
+    → Exactly numberOf (numberOf (property region q p T)) n (propertyChecks region q p T) (Value (asksFor region q p T) (formula region q p T))
 unfolding property
-property-number region q p T n = exactly numberOf n _ (Value (formula region q p T))
+property-number region q p T n = exactly numberOf n (propertyChecks region q p T) (Value (asksFor region q p T) (formula region q p T))
 
 -- a line: what it answers is its list, decided
-line-decided : (range : Range) (x result : Float) → line (checked range x result) ≡ decided (lineChecks range x result) (Value result)
+line-decided : (a : Asked) (range : Range) (x result : Float) → line a (checked range x result) ≡ decided (lineChecks a range x result) (Value a result)
 unfolding line checked found
-line-decided range x result = by (finite x) (inside range x) (finite result)
+line-decided a range x result = by (finite x) (inside range x) (finite result)
   where
-    by : (a b c : Bool) → line (cond a (cond b (cond c (At result) (OutOfRange 9)) (OutOfRange (boundaryNumber range))) (OutOfRange 1))
-        ≡ cond (not a) (refused 1) (cond (not b) (refused (boundaryNumber range)) (cond (not c) (refused 9) (Value result)))
-    by false b c = refl
-    by true false c = refl
+    by : (k l m : Bool) → line a (cond k (cond l (cond m (At result) (OutOfRange 9)) (OutOfRange (boundaryNumber range))) (OutOfRange 1))
+        ≡ cond (not k) (refused a 1) (cond (not l) (refused a (boundaryNumber range)) (cond (not m) (refused a 9) (Value a result)))
+    by false l m = refl
+    by true false m = refl
     by true true false = refl
     by true true true = refl
 
-line-number : (range : Range) (x result : Float) (n : ℕ) → Exactly numberOf (numberOf (line (checked range x result))) n (lineChecks range x result) (Value result)
-line-number range x result n = rw (line-decided range x result) (exactly numberOf n (lineChecks range x result) (Value result))
+line-number : (a : Asked) (range : Range) (x result : Float) (n : ℕ) → Exactly numberOf (numberOf (line a (checked range x result))) n (lineChecks a range x result) (Value a result)
+line-number a range x result n = rw (line-decided a range x result) (exactly numberOf n (lineChecks a range x result) (Value a result))
 
-pub saturation-pressure-number : (T : Float) (n : ℕ) → Exactly numberOf (numberOf (saturation-pressure T)) n (lineChecks T4 T (saturationPressure T)) (Value (saturationPressure T))
+pub saturation-pressure-number : (T : Float) (n : ℕ)
+    → Exactly numberOf (numberOf (saturation-pressure T)) n (lineChecks (onLine SaturationPressure T) T4 T (saturationPressure T)) (Value (onLine SaturationPressure T) (saturationPressure T))
 unfolding saturation-pressure
-saturation-pressure-number T n = line-number T4 T (saturationPressure T) n
+saturation-pressure-number T n = line-number (onLine SaturationPressure T) T4 T (saturationPressure T) n
 
-pub saturation-temperature-number : (p : Float) (n : ℕ) → Exactly numberOf (numberOf (saturation-temperature p)) n (lineChecks P4 p (saturationTemperature p)) (Value (saturationTemperature p))
+pub saturation-temperature-number : (p : Float) (n : ℕ)
+    → Exactly numberOf (numberOf (saturation-temperature p)) n (lineChecks (onLine SaturationTemperature p) P4 p (saturationTemperature p)) (Value (onLine SaturationTemperature p) (saturationTemperature p))
 unfolding saturation-temperature
-saturation-temperature-number p n = line-number P4 p (saturationTemperature p) n
+saturation-temperature-number p n = line-number (onLine SaturationTemperature p) P4 p (saturationTemperature p) n
 
-pub B23-pressure-number : (T : Float) (n : ℕ) → Exactly numberOf (numberOf (B23-pressure T)) n (lineChecks T23 T (B23-p T)) (Value (B23-p T))
+pub B23-pressure-number : (T : Float) (n : ℕ) → Exactly numberOf (numberOf (B23-pressure T)) n (lineChecks (onLine B23Pressure T) T23 T (B23-p T)) (Value (onLine B23Pressure T) (B23-p T))
 unfolding B23-pressure
-B23-pressure-number T n = line-number T23 T (B23-p T) n
+B23-pressure-number T n = line-number (onLine B23Pressure T) T23 T (B23-p T) n
 
-pub B23-temperature-number : (p : Float) (n : ℕ) → Exactly numberOf (numberOf (B23-temperature p)) n (lineChecks P23 p (B23-T p)) (Value (B23-T p))
+pub B23-temperature-number : (p : Float) (n : ℕ) → Exactly numberOf (numberOf (B23-temperature p)) n (lineChecks (onLine B23Temperature p) P23 p (B23-T p)) (Value (onLine B23Temperature p) (B23-T p))
 unfolding B23-temperature
-B23-temperature-number p n = line-number P23 p (B23-T p) n
+B23-temperature-number p n = line-number (onLine B23Temperature p) P23 p (B23-T p) n

@@ -11,8 +11,13 @@ use Rattle.r1.specs.Region1 as region1
 use Rattle.r2.specs.Region2 as region2
 use Rattle.r4.specs.Saturation.{saturationPressureAt, saturationTemperatureAt}
 use Rattle.search.specs.Decision.{Row, _⇒_, decided}
+use Rattle.vessel.specs.Asked.{atState, onLine}
 use Rattle.vessel.specs.Answer.{refused, line}
 use Rattle.vessel.specs.Range.{refusal}
+use Rattle.vessel.specs.declared.asked.Asked.{Asked}
+use Rattle.vessel.specs.declared.asked.Kind.the-variants.{SaturationPressure, SaturationTemperature, B23Pressure, B23Temperature}
+use Rattle.vessel.specs.declared.asked.NamedRegion.the-variants.{Names as InRegion}
+use Rattle.vessel.specs.declared.asked.NamedProperty.the-variants.{Names as OfProperty}
 use Rattle.vessel.specs.declared.answer.Answer.{Answer}
 use Rattle.vessel.specs.declared.answer.Answer.the-variants.{Value}
 use Rattle.pairs.specs.declared.row.Region.{Region}
@@ -37,28 +42,32 @@ formula Two Cp p T = region2.pT2cp p T
 formula Two Cv p T = region2.pT2cv p T
 formula Two SpeedOfSound p T = region2.pT2w p T
 
+abbrev pub asksFor : Region → Property → Float → Float → Asked
+asksFor region q p T = atState (InRegion region) (OfProperty q) p T
+
+abbrev pub propertyChecks : Region → Property → Float → Float → List (Row Answer)
+propertyChecks region q p T =
+    (not (eqb (refusal region p T) 0) ⇒ refused (asksFor region q p T) (refusal region p T))
+    ∷ ((not (finite (formula region q p T)) ⇒ refused (asksFor region q p T) 9) ∷ [])
+
 unfoldable pub property : Region → Property → Float → Float → Answer
-property region q p T =
-    decided
-    ((not (eqb (refusal region p T) 0) ⇒ refused (refusal region p T))
-    ∷ ((not (finite (formula region q p T)) ⇒ refused 9) ∷ []))
-    (Value (formula region q p T))
+property region q p T = decided (propertyChecks region q p T) (Value (asksFor region q p T) (formula region q p T))
 
 -- ---- the lines: 1, then 2 or 3, then 9
-abbrev pub lineChecks : Range → Float → Float → List (Row Answer)
-lineChecks range x result =
-    (not (finite x) ⇒ refused 1)
-    ∷ ((not (inside range x) ⇒ refused (numberOf range))
-    ∷ ((not (finite result) ⇒ refused 9) ∷ []))
+abbrev pub lineChecks : Asked → Range → Float → Float → List (Row Answer)
+lineChecks a range x result =
+    (not (finite x) ⇒ refused a 1)
+    ∷ ((not (inside range x) ⇒ refused a (numberOf range))
+    ∷ ((not (finite result) ⇒ refused a 9) ∷ []))
 
 unfoldable pub saturation-pressure : Float → Answer
-saturation-pressure T = line (saturationPressureAt T)
+saturation-pressure T = line (onLine SaturationPressure T) (saturationPressureAt T)
 
 unfoldable pub saturation-temperature : Float → Answer
-saturation-temperature p = line (saturationTemperatureAt p)
+saturation-temperature p = line (onLine SaturationTemperature p) (saturationTemperatureAt p)
 
 unfoldable pub B23-pressure : Float → Answer
-B23-pressure T = line (checked T23 T (B23-p T))
+B23-pressure T = line (onLine B23Pressure T) (checked T23 T (B23-p T))
 
 unfoldable pub B23-temperature : Float → Answer
-B23-temperature p = line (checked P23 p (B23-T p))
+B23-temperature p = line (onLine B23Temperature p) (checked P23 p (B23-T p))

@@ -1,3 +1,4 @@
+pub mod Asked
 pub mod Answer
 pub mod Range
 pub mod Calls
@@ -5,3 +6,5 @@ pub mod Searches
 pub mod Table
 pub mod Demand
 pub mod Readings
+pub mod Residuals
+pub mod EveryCall

@@ -16,8 +16,11 @@ use Rattle.pairs.specs.declared.row.Region.{Region}
 use Rattle.pairs.specs.declared.row.Region.the-variants.{One, Two}
 use Rattle.pairs.specs.declared.row.Pair.the-variants.{Pv1, Tv1, Th1, Ts1, Pv2, Tv2, Th2, Ts2}
 use Rattle.pairs.specs.declared.question.Question.{Question}
+use Rattle.vessel.specs.Asked.{kindOf, ofPair}
 use Rattle.vessel.specs.Answer.{answered, valueOf}
 use Rattle.vessel.specs.Range.{inside}
+use Rattle.vessel.specs.declared.asked.Asked.{Asked}
+use Rattle.vessel.specs.declared.asked.NamedRegion.the-variants.{Names as InRegion}
 use Rattle.vessel.specs.declared.answer.Answer.{Answer}
 use Rattle.vessel.specs.declared.pair.PvRegion.{PvRegion}
 use Rattle.vessel.specs.declared.pair.PvRegion.the-variants.{One as One', Two as Two'}
@@ -46,8 +49,12 @@ outcome q limit = decided (checks q limit) (steps q (start q) limit)
 unfoldable pub mark : Question → Float → Bool
 mark q x = inside (rowOf q .region) (stateOf q x .p) (stateOf q x .T)
 
+-- ---- what the call of a question is of: the input that is fixed comes first, as in the call
+unfoldable pub asked : Question → Asked
+asked q = ofPair (kindOf (q .pair)) (InRegion (rowOf q .region)) (q .fixed) (q .target)
+
 unfoldable pub search : Question → ℕ → Answer
-search q limit = answered (outcome q limit) (mark q (valueOf (outcome q limit)))
+search q limit = answered (asked q) (outcome q limit) (mark q (valueOf (outcome q limit)))
 
 -- ---- the calls
 abbrev pub pv2T : PvRegion → Float → Float → ℕ → Answer

@@ -1,5 +1,6 @@
 // The vessel's calls: any doubles and any step limit get an answer or a numbered refusal.
 pub mod answer;
+pub mod asked;
 pub mod pair;
 pub mod property;
 pub mod range;

@@ -3,10 +3,14 @@ ghost use mathlib.Core.Path.{_≡_};
 ghost use mathlib.Core.Bool.{_&&_};
 ghost use lib.Ieee.Scale.{finite};
 ghost use Rattle.pairs.specs.Pairs.{asks};
-ghost use Rattle.vessel.specs.Searches.{volumeRefused, outcome as outcomeOf, mark as markOf, search as searchOf, pv2T as pv2Tof, Tv2p as Tv2pOf, Th2p as Th2pOf, Ts2p as Ts2pOf};
+ghost use Rattle.vessel.specs.Searches.{volumeRefused, outcome as outcomeOf, mark as markOf, asked as askedOf, search as searchOf, pv2T as pv2Tof, Tv2p as Tv2pOf, Th2p as Th2pOf, Ts2p as Ts2pOf};
 use crate::answer::Answer;
 use crate::answer::answered;
 use crate::answer::value;
+use crate::asked::Asked;
+use crate::asked::NamedRegion;
+use crate::asked::kind_of;
+use crate::asked::of_pair;
 use crate::range::inside;
 use common::boundaries::inside as in_range;
 use common::boundaries::number;
@@ -80,6 +84,15 @@ fn mark(question: Question, x: f64) -> bool
     inside(pair.region(), state.p, state.T)
 }
 
+// What the call of a question is of.
+fn asked(question: Question) -> Asked
+    ensures { λ r. ⌜ r ≡ askedOf question ⌝ }
+{
+    let pair = question.pair;
+    let region = NamedRegion::Names(pair.region());
+    of_pair(kind_of(pair), region, question.fixed, question.target)
+}
+
 // A search with its mark.
 fn search(pair: Pair, fixed: f64, target: f64, limit: u32) -> Answer
     ensures { λ r. ⌜ r ≡ searchOf (asks pair fixed target) limit ⌝ }
@@ -90,7 +103,7 @@ fn search(pair: Pair, fixed: f64, target: f64, limit: u32) -> Answer
         target,
     };
     let found = outcome(question, limit);
-    answered(found, mark(question, value(found)))
+    answered(asked(question), found, mark(question, value(found)))
 }
 
 // (p,v) to T.

@@ -1,8 +1,12 @@
 // A property by (p,T).
 ghost use mathlib.Core.Path.{_≡_};
+ghost use Rattle.vessel.specs.Asked.{placeOf};
 ghost use Rattle.vessel.specs.Calls.{formula as formulaOf, property as propertyOf};
 use crate::answer::Answer;
 use crate::answer::refused;
+use crate::asked::NamedProperty;
+use crate::asked::NamedRegion;
+use crate::asked::at_state;
 use crate::range::refusal;
 use float::sign::is_finite;
 use pairs::row::Region;
@@ -30,6 +34,23 @@ pub enum Property {
     Cp,
     Cv,
     SpeedOfSound,
+}
+
+impl Property {
+    // Its place in document 01's list.
+    pub fn number(self) -> u32
+        ensures { λ r. ⌜ r ≡ placeOf self ⌝ }
+    {
+        match self {
+            Property::Volume => 1,
+            Property::InternalEnergy => 2,
+            Property::Entropy => 3,
+            Property::Enthalpy => 4,
+            Property::Cp => 5,
+            Property::Cv => 6,
+            Property::SpeedOfSound => 7,
+        }
+    }
 }
 
 fn formula_1(property: Property, p: f64, T: f64) -> f64
@@ -74,13 +95,19 @@ fn formula(region: Region, property: Property, p: f64, T: f64) -> f64
 pub fn pT(region: Region, property: Property, p: f64, T: f64) -> Answer
     ensures { λ r. ⌜ r ≡ propertyOf region property p T ⌝ }
 {
+    let asked = at_state(
+        NamedRegion::Names(region),
+        NamedProperty::Names(property),
+        p,
+        T,
+    );
     let number = refusal(region, p, T);
     if number != 0 {
-        return refused(number);
+        return refused(asked, number);
     }
     let result = formula(region, property, p, T);
     if !is_finite(result) {
-        return refused(9);
+        return refused(asked, 9);
     }
-    Answer::Value(result)
+    Answer::Value(asked, result)
 }

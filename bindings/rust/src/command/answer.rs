@@ -1,24 +1,23 @@
-//! A request's answer in words: a few lines for a reader, or one line.
-use crate::request::{Line, Notation, Request};
-use climboat::{Bracket, Reading, Refusal};
+//! A request's answer in words: a few lines for a reader, or one line. What it is of is read off the answer, not off the request.
+use crate::request::{Notation, Request};
+use climboat::{Asked, Bracket, Reading, Refusal};
 
 /// The exit status of a refusal; an answer's is 0.
 pub const REFUSED: u8 = 1;
 
-/// What was answered: the first words, and what else there is to say.
+/// What was answered: the first words, what they are of, and what else there is to say.
 pub struct Answer {
     first: String,
+    of: String,
     rest: Vec<(&'static str, String)>,
     pub status: u8,
 }
 
 impl Answer {
     pub fn to(request: Request, notation: Notation) -> Answer {
-        let (symbol, unit, answer) = asked(request);
-        let words = Words { unit, notation };
-        match answer {
-            Ok(reading) => words.answer(symbol, reading),
-            Err(refusal) => words.refusal(refusal),
+        match ask(request) {
+            Ok(reading) => Words::new(reading.asked, notation).answer(reading),
+            Err(refusal) => Words::new(refusal.asked, notation).refusal(refusal),
         }
     }
 
@@ -28,7 +27,8 @@ impl Answer {
             .rest
             .iter()
             .map(|(name, words)| format!("; {name}: {words}"));
-        std::iter::once(self.first.clone()).chain(rest).collect()
+        let start = format!("{}; {}", self.first, self.of);
+        std::iter::once(start).chain(rest).collect()
     }
 
     /// The answer on a few lines, aligned.
@@ -43,52 +43,42 @@ impl Answer {
             .rest
             .iter()
             .map(|(name, words)| format!("\n{:<1$} {words}", format!("{name}:"), widest + 1));
-        std::iter::once(self.first.clone()).chain(rest).collect()
+        let start = format!("{}\n{}", self.first, self.of);
+        std::iter::once(start).chain(rest).collect()
     }
 }
 
-/// The symbol and the unit of what is asked for, and the library's answer.
-fn asked(request: Request) -> (&'static str, &'static str, Result<Reading, Refusal>) {
+/// The library's answer.
+fn ask(request: Request) -> Result<Reading, Refusal> {
     match request {
         Request::Property {
             region,
             property,
             p,
             t,
-        } => (
-            property.symbol(),
-            property.unit(),
-            climboat::property(region, property, p, t),
-        ),
+        } => climboat::property(region, property, p, t),
         Request::Search {
             region,
             pair,
             fixed,
             target,
             limit,
-        } => (
-            pair.found(),
-            pair.unit(),
-            climboat::search(pair, region, fixed, target, limit),
-        ),
-        Request::Line(Line::SaturationTemperature, p) => {
-            ("T", "K", climboat::saturation_temperature(p))
-        }
-        Request::Line(Line::SaturationPressure, t) => {
-            ("p", "MPa", climboat::saturation_pressure(t))
-        }
-        Request::Line(Line::B23Temperature, p) => ("T", "K", climboat::b23_temperature(p)),
-        Request::Line(Line::B23Pressure, t) => ("p", "MPa", climboat::b23_pressure(t)),
+        } => climboat::search(pair, region, fixed, target, limit),
+        Request::Line(line, coordinate) => line(coordinate),
     }
 }
 
-/// How the numbers of an answer are written.
+/// How an answer is written: what it is of, and the notation of its doubles.
 struct Words {
-    unit: &'static str,
+    asked: Asked,
     notation: Notation,
 }
 
 impl Words {
+    fn new(asked: Asked, notation: Notation) -> Words {
+        Words { asked, notation }
+    }
+
     fn double(&self, x: f64) -> String {
         match self.notation {
             Notation::Decimal => format!("{x:?}"),
@@ -96,28 +86,45 @@ impl Words {
         }
     }
 
-    fn bracket(&self, bracket: Bracket) -> String {
-        format!(
-            "{} to {} {}",
-            self.double(bracket.lower),
-            self.double(bracket.upper),
-            self.unit
-        )
+    /// A double of what was asked for, with its unit.
+    fn value(&self, x: f64) -> String {
+        format!("{} {}", self.double(x), self.asked.wanted().unit)
     }
 
-    fn answer(&self, symbol: &str, reading: Reading) -> Answer {
+    fn of(&self) -> String {
+        format!("of {}", self.asked.words(|x| self.double(x)))
+    }
+
+    fn bracket(&self, bracket: Bracket) -> [(&'static str, String); 2] {
+        let ends = format!(
+            "{} to {}",
+            self.double(bracket.lower),
+            self.value(bracket.upper)
+        );
+        let residuals = format!(
+            "{} and {} {}",
+            self.double(bracket.lower_residual),
+            self.double(bracket.upper_residual),
+            self.asked.residual_unit()
+        );
+        [("bracket", ends), ("residuals", residuals)]
+    }
+
+    fn answer(&self, reading: Reading) -> Answer {
         let mut rest = Vec::new();
         if let Some(search) = reading.search {
             rest.push(("reason", reading.reason.to_string()));
             rest.push(("steps", search.steps.to_string()));
-            rest.push(("bracket", self.bracket(search.bracket)));
+            rest.extend(self.bracket(search.bracket));
             rest.push((
                 "inside the region",
                 if search.inside { "yes" } else { "no" }.to_string(),
             ));
         }
+        let symbol = self.asked.wanted().symbol;
         Answer {
-            first: format!("{symbol} = {} {}", self.double(reading.value), self.unit),
+            first: format!("{symbol} = {}", self.value(reading.value)),
+            of: self.of(),
             rest,
             status: 0,
         }
@@ -127,16 +134,15 @@ impl Words {
         let mut rest = Vec::new();
         if refusal.has_bracket() {
             rest.push(("steps", refusal.steps.to_string()));
-            rest.push(("bracket", self.bracket(refusal.bracket)));
+            rest.extend(self.bracket(refusal.bracket));
         }
         if let Some(point) = refusal.last_point() {
-            rest.push((
-                "last point",
-                format!("{} {}", self.double(point), self.unit),
-            ));
+            rest.push(("last point", self.value(point)));
         }
+        let symbol = self.asked.wanted().symbol;
         Answer {
             first: format!("refused by {}: {}", refusal.number, refusal.sentence()),
+            of: format!("{}, where {symbol} was asked for", self.of()),
             rest,
             status: REFUSED,
         }

@@ -1,5 +1,8 @@
 //! A command line as a request to the library, or what is wrong with its words.
-use climboat::{Pair, Property, Region, STEP_LIMIT};
+use climboat::{
+    b23_pressure, b23_temperature, saturation_pressure, saturation_temperature, Pair, Property,
+    Reading, Refusal, Region, STEP_LIMIT,
+};
 
 /// How doubles are read and written.
 #[derive(Clone, Copy, PartialEq)]
@@ -9,13 +12,8 @@ pub enum Notation {
     Bits,
 }
 
-/// A line of the release, by which of its two coordinates is asked for.
-pub enum Line {
-    SaturationTemperature,
-    SaturationPressure,
-    B23Temperature,
-    B23Pressure,
-}
+/// The call of a line of the release for one of its two coordinates.
+pub type Line = fn(f64) -> Result<Reading, Refusal>;
 
 pub enum Request {
     Property {
@@ -185,12 +183,8 @@ pub fn request(texts: &[&str], notation: Notation) -> Result<(Request, Notation)
             .among(&firsts, First::name, "region or line")?;
     let request = match first {
         First::Region(region) => of_region(&mut words, region)?,
-        First::Saturation => of_line(
-            &mut words,
-            Line::SaturationTemperature,
-            Line::SaturationPressure,
-        )?,
-        First::B23 => of_line(&mut words, Line::B23Temperature, Line::B23Pressure)?,
+        First::Saturation => of_line(&mut words, saturation_temperature, saturation_pressure)?,
+        First::B23 => of_line(&mut words, b23_temperature, b23_pressure)?,
     };
     words.end(request)
 }

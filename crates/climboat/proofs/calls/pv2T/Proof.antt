@@ -13,12 +13,15 @@ enum-known-in-region c = search needs
 enum-told : tie.Need-enum-told
 enum-told c = search needs
 
+of-pair-requires : tie.Need-of-pair-requires
+of-pair-requires c κs = search needs
+
 refused-requires : tie.Need-refused-requires
 refused-requires c κs = search needs
 
 returns : tie.Need-returns
 unfolding pv2T inPvRegion
-returns c = rw (← c .before .before .before .pv-region .ensures, c .before .enum-told .given .1) (c .refused .ensures)
+returns c = rw (← c .before .before .before .before .pv-region .ensures, c .before .before .enum-told .given .1, ← c .before .of-pair .ensures) (c .refused .ensures)
 
 pv2T-requires : tie.Need-pv2T-requires
 pv2T-requires c κs = search needs
@@ -34,6 +37,7 @@ pv2T-spec =
     pv-region-requires
     enum-known-in-region
     enum-told
+    of-pair-requires
     refused-requires
     returns
     pv2T-requires

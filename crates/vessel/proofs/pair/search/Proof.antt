@@ -7,6 +7,9 @@ use Rattle.vessel.proofs.pair.search.Tie as tie
 outcome-requires : tie.Need-outcome-requires
 outcome-requires c κs = search needs
 
+asked-requires : tie.Need-asked-requires
+asked-requires c κs = search needs
+
 value-requires : tie.Need-value-requires
 value-requires c κs = search needs
 
@@ -18,8 +21,8 @@ answered-requires c κs = search needs
 
 returns : tie.Need-returns
 unfolding searchOf
-returns c = rw (← c .before .before .before .outcome .ensures, ← c .before .before .value .ensures, ← c .before .mark .ensures) (c .answered .ensures)
+returns c = rw (← c .before .before .before .before .outcome .ensures, ← c .before .before .before .asked .ensures, ← c .before .before .value .ensures, ← c .before .mark .ensures) (c .answered .ensures)
 
 pub search-spec : {M : Type 1} → statement M
 search-spec =
-    tie.close (tie.spec outcome-requires value-requires mark-requires answered-requires returns)
+    tie.close (tie.spec outcome-requires asked-requires value-requires mark-requires answered-requires returns)

@@ -4,6 +4,9 @@ use borrow.Author.Needs.{needs}
 use Rattle.vessel.proofs.saturation.B23_pressure.Statement.{statement}
 use Rattle.vessel.proofs.saturation.B23_pressure.Tie as tie
 
+on-line-requires : tie.Need-on-line-requires
+on-line-requires c κs = search needs
+
 B23-T2p-requires : tie.Need-B23-T2p-requires
 B23-T2p-requires c κs = search needs
 
@@ -15,7 +18,7 @@ line-requires c κs = search needs
 
 returns : tie.Need-returns
 unfolding B23-pressure
-returns c = rw (← c .before .before .B23-T2p .ensures, ← c .before .checked .ensures, ← c .line .ensures)
+returns c = rw (← c .before .before .before .on-line .ensures, ← c .before .before .B23-T2p .ensures, ← c .before .checked .ensures) (c .line .ensures)
 
 pub B23-pressure-spec : {M : Type 1} → statement M
-B23-pressure-spec = tie.close (tie.spec B23-T2p-requires checked-requires line-requires returns)
+B23-pressure-spec = tie.close (tie.spec on-line-requires B23-T2p-requires checked-requires line-requires returns)

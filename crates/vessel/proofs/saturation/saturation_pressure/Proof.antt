@@ -4,6 +4,9 @@ use borrow.Author.Needs.{needs}
 use Rattle.vessel.proofs.saturation.saturation_pressure.Statement.{statement}
 use Rattle.vessel.proofs.saturation.saturation_pressure.Tie as tie
 
+on-line-requires : tie.Need-on-line-requires
+on-line-requires c κs = search needs
+
 p-saturation-requires : tie.Need-p-saturation-requires
 p-saturation-requires c κs = search needs
 
@@ -12,7 +15,7 @@ line-requires c κs = search needs
 
 returns : tie.Need-returns
 unfolding saturation-pressure
-returns c = rw (← c .before .p-saturation .ensures, ← c .line .ensures)
+returns c = rw (← c .before .before .on-line .ensures, ← c .before .p-saturation .ensures) (c .line .ensures)
 
 pub saturation-pressure-spec : {M : Type 1} → statement M
-saturation-pressure-spec = tie.close (tie.spec p-saturation-requires line-requires returns)
+saturation-pressure-spec = tie.close (tie.spec on-line-requires p-saturation-requires line-requires returns)

@@ -4,6 +4,9 @@ use borrow.Author.Needs.{needs}
 use Rattle.vessel.proofs.saturation.saturation_temperature.Statement.{statement}
 use Rattle.vessel.proofs.saturation.saturation_temperature.Tie as tie
 
+on-line-requires : tie.Need-on-line-requires
+on-line-requires c κs = search needs
+
 T-saturation-requires : tie.Need-T-saturation-requires
 T-saturation-requires c κs = search needs
 
@@ -12,7 +15,7 @@ line-requires c κs = search needs
 
 returns : tie.Need-returns
 unfolding saturation-temperature
-returns c = rw (← c .before .T-saturation .ensures, ← c .line .ensures)
+returns c = rw (← c .before .before .on-line .ensures, ← c .before .T-saturation .ensures) (c .line .ensures)
 
 pub saturation-temperature-spec : {M : Type 1} → statement M
-saturation-temperature-spec = tie.close (tie.spec T-saturation-requires line-requires returns)
+saturation-temperature-spec = tie.close (tie.spec on-line-requires T-saturation-requires line-requires returns)

@@ -1,0 +1,43 @@
+/* What the C checks ask: a question of the nine calls, how it is asked and written, whether an answer says that it is of it, and a fixed generator: every run asks the same ones. */
+#ifndef QUESTIONS_H
+#define QUESTIONS_H
+
+#include <climboat.h>
+#include <stddef.h>
+
+#define KINDS 9u
+
+/* One call with its inputs; the region, the property, the limit and the second input count where the call has them. */
+struct question {
+    enum climboat_kind kind;
+    uint32_t region;
+    uint32_t property;
+    uint32_t limit;
+    double first;
+    double second;
+};
+
+bool has_two_inputs(enum climboat_kind kind);
+
+/* The property that a search has as its target; CLIMBOAT_NO_PROPERTY for a call that does not search. */
+uint32_t target_of(enum climboat_kind kind);
+
+struct climboat_answer ask(const struct question *q);
+
+/* The question as the call that asks it. */
+void write_question(char *text, size_t size, const struct question *q);
+
+/* Whether the region or the property is given by a number that names nothing. */
+bool names_nothing(const struct question *q);
+
+/* Whether the answer says that it is of the question, with the same inputs bit for bit. */
+bool is_of(const struct climboat_answer *answer, const struct question *q);
+
+/* The draws: of 64 bits, below a bound, of any mantissa with an exponent from the lower to the upper one, of a subnormal, and of a question. */
+uint64_t draw(void);
+uint32_t draw_below(uint32_t bound);
+double draw_exponents(int lower, int upper);
+double draw_subnormal(void);
+struct question draw_question(void);
+
+#endif

@@ -1,0 +1,187 @@
+/* Times the public calls of two builds of Climboat, before and after, in turn and on the same inputs: compare/builds links it with both.
+ * Each figure is the median of nine passes, in nanoseconds for a call. */
+#define _POSIX_C_SOURCE 199309L
+#include <math.h>
+#include <stdbool.h>
+#include <stdint.h>
+#include <stdio.h>
+#include <stdlib.h>
+#include <time.h>
+
+enum { STATES = 20000, SEARCHED = 2000, PASSES = 9, LIMIT = 20000 };
+
+typedef void property_call(uint32_t region, uint32_t property, double p, double T, uint32_t *numbers, double *doubles);
+typedef void line_call(double x, uint32_t *numbers, double *doubles);
+typedef void search_call(uint32_t region, double fixed, double target, uint32_t limit, uint32_t *numbers, double *doubles);
+
+struct build {
+    property_call *pT;
+    line_call *lines[4];
+    search_call *searches[4];
+};
+
+#define DECLARED(build) \
+    extern property_call build##_pT; \
+    extern line_call build##_saturation_pressure, build##_saturation_temperature, build##_B23_pressure, build##_B23_temperature; \
+    extern search_call build##_pv2T, build##_Tv2p, build##_Th2p, build##_Ts2p
+#define OFFERED(build) \
+    { build##_pT, { build##_saturation_pressure, build##_saturation_temperature, build##_B23_pressure, build##_B23_temperature }, { build##_pv2T, build##_Tv2p, build##_Th2p, build##_Ts2p } }
+
+DECLARED(before);
+DECLARED(after);
+static const struct build before = OFFERED(before), after = OFFERED(after);
+
+/* By their places in struct build. */
+enum line { SATURATION_PRESSURE, SATURATION_TEMPERATURE, B23_PRESSURE, B23_TEMPERATURE };
+enum search { PV, TV, TH, TS };
+
+/* By their numbers in a (p,T) call. */
+enum property { V = 1, S = 3, H = 4, W = 7 };
+
+enum form { PROPERTY, LINE, SEARCH };
+
+/* A call with all but its inputs: which property, line or search it is, and of which region. */
+struct call {
+    const char *name;
+    enum form form;
+    uint32_t which, region;
+};
+
+static const struct call calls[] = {
+    { "region 1 (p,T) to v", PROPERTY, V, 1 }, { "region 1 (p,T) to s", PROPERTY, S, 1 }, { "region 1 (p,T) to h", PROPERTY, H, 1 }, { "region 1 (p,T) to w", PROPERTY, W, 1 },
+    { "region 2 (p,T) to v", PROPERTY, V, 2 }, { "region 2 (p,T) to s", PROPERTY, S, 2 }, { "region 2 (p,T) to h", PROPERTY, H, 2 }, { "region 2 (p,T) to w", PROPERTY, W, 2 },
+    { "saturation pressure", LINE, SATURATION_PRESSURE, 0 }, { "saturation temperature", LINE, SATURATION_TEMPERATURE, 0 },
+    { "B23 pressure", LINE, B23_PRESSURE, 0 }, { "B23 temperature", LINE, B23_TEMPERATURE, 0 },
+    { "region 1 (p,v) to T", SEARCH, PV, 1 }, { "region 1 (T,v) to p", SEARCH, TV, 1 }, { "region 1 (T,h) to p", SEARCH, TH, 1 }, { "region 1 (T,s) to p", SEARCH, TS, 1 },
+    { "region 2 (p,v) to T", SEARCH, PV, 2 }, { "region 2 (T,v) to p", SEARCH, TV, 2 }, { "region 2 (T,h) to p", SEARCH, TH, 2 }, { "region 2 (T,s) to p", SEARCH, TS, 2 },
+};
+
+struct inputs {
+    double first, second;
+};
+
+/* What a call is lent: the arrays of the wider record, of which an older build writes the beginning. */
+static uint32_t numbers[8];
+static double doubles[8];
+
+static void ask(const struct build *build, const struct call *call, struct inputs inputs)
+{
+    switch (call->form) {
+    case PROPERTY: build->pT(call->region, call->which, inputs.first, inputs.second, numbers, doubles); break;
+    case LINE: build->lines[call->which](inputs.first, numbers, doubles); break;
+    case SEARCH: build->searches[call->which](call->region, inputs.first, inputs.second, LIMIT, numbers, doubles); break;
+    }
+}
+
+static bool answers(const struct build *build, const struct call *call, struct inputs inputs)
+{
+    ask(build, call, inputs);
+    return numbers[0] == 0;
+}
+
+/* xorshift64* from a fixed seed, as in src/draw.rs: from 0 to 1. */
+static double unit(void)
+{
+    static uint64_t state = 0x0c1b0a7000000045;
+    state ^= state >> 12;
+    state ^= state << 25;
+    state ^= state >> 27;
+    return (double)(state * 0x2545f4914f6cdd1d >> 11) / 9007199254740992.0;
+}
+
+static double between(double low, double high)
+{
+    return low + unit() * (high - low);
+}
+
+/* Of every magnitude from low to high alike. */
+static double logarithmic(double low, double high)
+{
+    return exp(between(log(low), log(high)));
+}
+
+static double on_line(enum line line, double x)
+{
+    before.lines[line](x, numbers, doubles);
+    return doubles[0];
+}
+
+/* A pressure and a temperature of a region; one that rounding puts outside is refused, and left out. */
+static struct inputs state(uint32_t region)
+{
+    double T = between(273.15, region == 1 ? 623.15 : 1073.15);
+    double boundary = T <= 623.15 ? on_line(SATURATION_PRESSURE, T) : T <= 863.15 ? on_line(B23_PRESSURE, T) : 100.0;
+    double p = region == 1 ? between(boundary, 100.0) : logarithmic(1.0e-8, boundary);
+    return (struct inputs){ p, T };
+}
+
+/* An input of the call, a search's from a state of its region. */
+static struct inputs drawn(const struct call *call)
+{
+    static const struct inputs ranges[] = { { 273.15, 647.096 }, { 0.000611212677, 22.064 }, { 623.15, 863.15 }, { 16.5291643, 100.0 } };
+    static const enum property targets[] = { V, V, H, S };
+    struct inputs at;
+    if (call->form == LINE)
+        return (struct inputs){ between(ranges[call->which].first, ranges[call->which].second), 0.0 };
+    at = state(call->region);
+    if (call->form == PROPERTY)
+        return at;
+    before.pT(call->region, targets[call->which], at.first, at.second, numbers, doubles);
+    return (struct inputs){ call->which == PV ? at.first : at.second, doubles[0] };
+}
+
+/* Draws inputs of the call, and lists those that both builds answer; how many they are. */
+static int prepared(const struct call *call, struct inputs *list)
+{
+    int wanted = call->form == SEARCH ? SEARCHED : STATES, count = 0;
+    for (int n = 0; n < wanted; n++) {
+        list[count] = drawn(call);
+        if (answers(&before, call, list[count]) && answers(&after, call, list[count]))
+            count++;
+    }
+    return count;
+}
+
+static double pass(const struct build *build, const struct call *call, const struct inputs *list, int count)
+{
+    struct timespec start, end;
+    clock_gettime(CLOCK_MONOTONIC, &start);
+    for (int n = 0; n < count; n++)
+        ask(build, call, list[n]);
+    clock_gettime(CLOCK_MONOTONIC, &end);
+    return ((double)(end.tv_sec - start.tv_sec) * 1.0e9 + (double)(end.tv_nsec - start.tv_nsec)) / count;
+}
+
+static int ascending(const void *a, const void *b)
+{
+    double x = *(const double *)a, y = *(const double *)b;
+    return (x > y) - (x < y);
+}
+
+static double median(double times[PASSES])
+{
+    qsort(times, PASSES, sizeof times[0], ascending);
+    return times[PASSES / 2];
+}
+
+int main(void)
+{
+    static struct inputs list[STATES];
+    puts("| call | before | after | after/before |\n|---|---|---|---|");
+    for (size_t n = 0; n < sizeof calls / sizeof calls[0]; n++) {
+        double times[2][PASSES], medians[2];
+        int count = prepared(&calls[n], list);
+        if (count == 0) {
+            fprintf(stderr, "builds: %s: no input that both builds answer\n", calls[n].name);
+            return 1;
+        }
+        for (int turn = 0; turn < PASSES; turn++) {
+            times[0][turn] = pass(&before, &calls[n], list, count);
+            times[1][turn] = pass(&after, &calls[n], list, count);
+        }
+        medians[0] = median(times[0]);
+        medians[1] = median(times[1]);
+        printf("| %s | %.1f ns | %.1f ns | %.2f |\n", calls[n].name, medians[0], medians[1], medians[1] / medians[0]);
+    }
+    return 0;
+}

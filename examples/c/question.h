@@ -1,0 +1,58 @@
+/* What an answer or a refusal is of, in words and units for a line of a log, from the record alone. It is not in climboat.h, which a controller without <stdio.h> includes too. */
+#ifndef QUESTION_H
+#define QUESTION_H
+
+#include <climboat.h>
+#include <stdio.h>
+
+/* The place that is asked about: the line, or the region as the caller named it. */
+static inline const char *place_of(struct climboat_answer answer)
+{
+    switch (answer.kind) {
+    case CLIMBOAT_KIND_SATURATION_PRESSURE:
+    case CLIMBOAT_KIND_SATURATION_TEMPERATURE: return "the saturation line";
+    case CLIMBOAT_KIND_B23_PRESSURE:
+    case CLIMBOAT_KIND_B23_TEMPERATURE: return "B23";
+    default: return answer.region == CLIMBOAT_REGION_1 ? "region 1" : answer.region == CLIMBOAT_REGION_2 ? "region 2" : "no region";
+    }
+}
+
+/* The place and the inputs, such as "region 1, p = 3 MPa, T = 300 K". As snprintf it writes no more than size bytes, and returns how long the whole is. 17 digits tell each double from all others. */
+static inline int write_question(char *text, size_t size, struct climboat_answer answer)
+{
+    const char *place = place_of(answer);
+    switch (answer.kind) {
+    case CLIMBOAT_KIND_PT: return snprintf(text, size, "%s, p = %.17g MPa, T = %.17g K", place, answer.first, answer.second);
+    case CLIMBOAT_KIND_SATURATION_PRESSURE:
+    case CLIMBOAT_KIND_B23_PRESSURE: return snprintf(text, size, "%s, T = %.17g K", place, answer.first);
+    case CLIMBOAT_KIND_SATURATION_TEMPERATURE:
+    case CLIMBOAT_KIND_B23_TEMPERATURE: return snprintf(text, size, "%s, p = %.17g MPa", place, answer.first);
+    case CLIMBOAT_KIND_PV: return snprintf(text, size, "%s, p = %.17g MPa, v = %.17g m^3/kg", place, answer.first, answer.second);
+    case CLIMBOAT_KIND_TV: return snprintf(text, size, "%s, T = %.17g K, v = %.17g m^3/kg", place, answer.first, answer.second);
+    case CLIMBOAT_KIND_TH: return snprintf(text, size, "%s, T = %.17g K, h = %.17g kJ/kg", place, answer.first, answer.second);
+    case CLIMBOAT_KIND_TS: return snprintf(text, size, "%s, T = %.17g K, s = %.17g kJ/(kg K)", place, answer.first, answer.second);
+    }
+    return snprintf(text, size, "a call that climboat.h does not know");
+}
+
+/* A quantity by its letter, with its unit. */
+struct quantity {
+    const char *letter;
+    const char *unit;
+};
+
+/* What is asked for there: the value's letter and unit. */
+static inline struct quantity sought_by(struct climboat_answer answer)
+{
+    static const struct quantity p = {"p", "MPa"}, T = {"T", "K"};
+    static const struct quantity properties[] = {{"no property", ""}, {"v", "m^3/kg"}, {"u", "kJ/kg"}, {"s", "kJ/(kg K)"}, {"h", "kJ/kg"}, {"cp", "kJ/(kg K)"}, {"cv", "kJ/(kg K)"}, {"w", "m/s"}};
+    switch (answer.kind) {
+    case CLIMBOAT_KIND_PT: return properties[answer.property];
+    case CLIMBOAT_KIND_SATURATION_TEMPERATURE:
+    case CLIMBOAT_KIND_B23_TEMPERATURE:
+    case CLIMBOAT_KIND_PV: return T;
+    default: return p;
+    }
+}
+
+#endif
