@@ -1,7 +1,7 @@
 /* Climboat for C11 and C++: what temperature, what pressure, what volume, for water and steam (IAPWS-IF97 regions 1 and 2), or a numbered refusal.
  * Link libclimboat.a (tools/staticlib climboat). Units: MPa, K, m^3/kg, kJ/kg, kJ/(kg K), m/s.
- * Every answer and every refusal says what it is of: the call, the region, the property and both inputs, which come back bit for bit, every NaN pattern too. The proofs know one NaN
- * only: that its pattern, quiet or signalling, comes back as it went in is measured by bindings/c/run, on the processor that it runs on.
+ * Every answer and every refusal says what it is of: the call, the region, the property and both inputs, which come back bit for bit, a NaN's pattern too. The proofs know one NaN
+ * only: that patterns with every bit of the payload, quiet and signalling, come back as they went in is measured by bindings/c/run, on the processor that it runs on.
  * Any two doubles may be given, NaN and infinities included: no call traps, allocates or keeps state.
  * The floating-point environment: this holds, and an answer is the proved one, in IEEE 754's default environment: every exception masked, rounding to nearest, subnormals kept.
  * No call changes a control bit; sticky flags may be raised. A program that is linked with -ffast-math starts with flush-to-zero on, and breaks that: as measured (bindings/c/run),
@@ -107,7 +107,7 @@ struct climboat_answer {
     uint32_t region;         /* enum climboat_region; 0 for the saturation line and B23, and for 21 where the number given names no region */
     enum climboat_kind kind; /* the call, never 0 */
     uint32_t property;       /* enum climboat_property; 0 for every call but climboat_pT, and for 21 where the number given names no property */
-    uint32_t room;           /* always 0; it leaves the struct without a gap, whose bytes could be anything */
+    uint32_t room;           /* always 0; where an enum has four bytes it leaves the struct without a gap, whose bytes could be anything */
 };
 
 /* What the archive exports: each call writes number, reason, steps, mark, region, kind, property, 0 and value, lower, upper, both residuals, first, second, 0 into two lent arrays.

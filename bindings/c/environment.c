@@ -90,7 +90,7 @@ static void fail(const char *what, const struct question *q, const char *where)
 {
     char text[200];
     fesetenv(FE_DFL_ENV);
-    write_question(text, sizeof text, q);
+    write_call(text, sizeof text, q);
     printf("environment: %s %s; %s\n", text, what, where);
     exit(1);
 }
@@ -185,7 +185,7 @@ static struct difference compare(const struct question *questions, const struct 
         d.by_number += ours[i].number != theirs[i].number;
         d.by_residual += is_by_residual(&ours[i], theirs[i]);
         d.tiny_volume += is_tiny_volume(&questions[i], &ours[i], &theirs[i]);
-        write_question(text, sizeof text, &questions[i]);
+        write_call(text, sizeof text, &questions[i]);
         if (d.shortest[0] == '\0' || strlen(text) < strlen(d.shortest)) memcpy(d.shortest, text, sizeof text);
     }
     return d;

@@ -43,7 +43,7 @@ static uint64_t bits_at(const double *place)
 static void tell_difference(const struct climboat_answer *a, const struct question *q)
 {
     char text[200];
-    write_question(text, sizeof text, q);
+    write_call(text, sizeof text, q);
     printf("given back: %s, inputs %016" PRIx64 " %016" PRIx64 ":", text, bits_at(&q->first), bits_at(&q->second));
     printf(" number %u, kind %u, region %u, property %u, inputs %016" PRIx64 " %016" PRIx64 "\n", (unsigned)a->number, (unsigned)a->kind, (unsigned)a->region, (unsigned)a->property,
            bits_at(&a->first), bits_at(&a->second));

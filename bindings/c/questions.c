@@ -37,7 +37,7 @@ struct climboat_answer ask(const struct question *q)
     }
 }
 
-void write_question(char *text, size_t size, const struct question *q)
+void write_call(char *text, size_t size, const struct question *q)
 {
     static const char *const names[KINDS] = {"pT", "saturation_pressure", "saturation_temperature", "B23_pressure", "B23_temperature", "pv2T", "Tv2p", "Th2p", "Ts2p"};
     const char *name = names[q->kind - 1];

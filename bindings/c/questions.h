@@ -25,7 +25,7 @@ uint32_t target_of(enum climboat_kind kind);
 struct climboat_answer ask(const struct question *q);
 
 /* The question as the call that asks it. */
-void write_question(char *text, size_t size, const struct question *q);
+void write_call(char *text, size_t size, const struct question *q);
 
 /* Whether the region or the property is given by a number that names nothing. */
 bool names_nothing(const struct question *q);

@@ -92,7 +92,7 @@ static void hold(const struct question *q)
     char text[200];
     count_number(&a);
     if (are_given(&a) || count.differ++ >= 5) return;
-    write_question(text, sizeof text, q);
+    write_call(text, sizeof text, q);
     printf("residuals: %s: number %u, between %.17g and %.17g, residuals %.17g and %.17g\n", text, (unsigned)a.number, a.lower, a.upper, a.lower_residual, a.upper_residual);
 }
 

@@ -1,4 +1,4 @@
-//! NaN of every payload, and the other doubles that are strange, in each place of an input of every public call: each comes back bit for bit, refused in document 01's order.
+//! NaN with every bit of the payload, and the other doubles that are strange, in each place of an input of every public call: each comes back bit for bit, refused in document 01's order.
 
 use crate::climboat::{Pair, Record, LARGEST_LIMIT};
 use crate::draw::Draw;
@@ -59,11 +59,21 @@ fn meet(tally: &mut Tally, x: u64, y: u64) {
         let ours = question.climboat();
         let owed = match refusal(&question) {
             Some(number) => Record { number, ..question.asked() },
-            // a search decides: `doubles` and `recorded` hold its outcome, here it must say what it is of
-            None => question.with(ours),
+            None => searched(&question, ours),
         };
         tally.check(ours.same(&owed), || format!("{}: {ours:?}, its inputs {:016x} {:016x}; owed {owed:?}", question.digits(), ours.first.to_bits(), ours.second.to_bits()));
     }
+}
+
+/// What is owed where a search decides: by the second reading; where the original crate is not at hand, the outcome as it is, with what was asked.
+#[cfg(feature = "original")]
+fn searched(question: &Question, _ours: Record) -> Record {
+    question.table()
+}
+
+#[cfg(not(feature = "original"))]
+fn searched(question: &Question, ours: Record) -> Record {
+    question.with(ours)
 }
 
 /// Every call with x in each place beside an ordinary number, and with x and y together, also where nothing is named and where the limit is too large.

@@ -55,4 +55,16 @@ static inline struct quantity sought_by(struct climboat_answer answer)
     }
 }
 
+/* What the residuals of a search are in: the unit of its target, or, where they are divided by the target, no unit. */
+static inline const char *residual_unit(struct climboat_answer answer)
+{
+    switch (answer.kind) {
+    case CLIMBOAT_KIND_PV: return answer.region == CLIMBOAT_REGION_1 ? "(relative)" : "m^3/kg";
+    case CLIMBOAT_KIND_TV: return answer.region == CLIMBOAT_REGION_2 ? "(relative)" : "m^3/kg";
+    case CLIMBOAT_KIND_TH: return "kJ/kg";
+    case CLIMBOAT_KIND_TS: return "kJ/(kg K)";
+    default: return "";
+    }
+}
+
 #endif

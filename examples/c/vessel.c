@@ -16,8 +16,8 @@ static void tell(struct climboat_answer answer)
 
 static void tell_bracket(struct climboat_answer answer)
 {
-    printf("  after %u steps between %.17g and %.17g %s, where the residuals are %.17g and %.17g\n", (unsigned)answer.steps, answer.lower, answer.upper, sought_by(answer).unit,
-           answer.lower_residual, answer.upper_residual);
+    printf("  after %u steps between %.17g and %.17g %s, where the residuals are %.17g and %.17g %s\n", (unsigned)answer.steps, answer.lower, answer.upper, sought_by(answer).unit,
+           answer.lower_residual, answer.upper_residual, residual_unit(answer));
 }
 
 static void tell_search(struct climboat_answer answer)
@@ -26,8 +26,9 @@ static void tell_search(struct climboat_answer answer)
     tell(answer);
     if (climboat_is_answered(answer)) {
         printf("  %s, %s the region\n", reasons[answer.reason], answer.mark == CLIMBOAT_INSIDE ? "inside" : "outside");
-        tell_bracket(answer);
-    } else if (answer.number == CLIMBOAT_STEPS_SPENT) {
+    }
+    /* an answer has a bracket, and so have the refusals 6, 8 and 10; the others have 0 and 0 */
+    if (answer.lower < answer.upper) {
         tell_bracket(answer);
     }
 }

@@ -1,10 +1,11 @@
--- The question in the record is the question asked by number: one theorem over all calls of the C interface, and that the numbers told are the numbers given, or 0 where they name nothing. Assumes nothing.
+-- The question in the record is the question asked by number: one theorem over all calls of the C interface; and the numbers told are the numbers given, or 0 where they name nothing. Assumes nothing.
 use Prim.Native.Nat.{ℕ}
 use mathlib.Core.Path.{_≡_, refl, sym, subst}
 use mathlib.Core.Logic.{_⊎_, inl, inr}
 use mathlib.Core.Bool.{true}
 use lib.Dec.{T, eqb, eqb→eq}
 use lib.Ieee.{Float}
+use Rattle.search.specs.Decision.{None}
 use Rattle.search.proofs.Searches.{decides}
 use Rattle.pairs.specs.declared.row.Region.{Region}
 use Rattle.vessel.specs.Asked.{regionNumber, propertyNumber, atState, ofPair}
@@ -13,7 +14,6 @@ use Rattle.vessel.specs.Searches as searches
 use Rattle.vessel.specs.Answer.{columns}
 use Rattle.vessel.specs.EveryCall as vessel
 use Rattle.vessel.proofs.EveryCall as vessels
-use Rattle.vessel.specs.declared.pair.PvRegion.the-variants.{One as One', Two as Two'}
 use Rattle.vessel.specs.declared.asked.Kind.{Kind}
 use Rattle.vessel.specs.declared.asked.Kind.the-variants.{Pv}
 use Rattle.vessel.specs.declared.asked.NamedRegion.{NamedRegion}
@@ -51,8 +51,7 @@ says (B23Temperature p) = vessels.says (vessel.B23Temperature p)
 says (pv2T region p v limit) = by (pvRegionNamed region)
   where
     by : (n : NamedPvRegion) → columns (inPvRegion n (ofPair Pv Nothing p v) (λ r. searches.pv2T r p v limit)) .asked ≡ ofPair Pv (ofPv n) p v
-    by (Names' One') = vessels.says (vessel.pv2T One' p v limit)
-    by (Names' Two') = vessels.says (vessel.pv2T Two' p v limit)
+    by (Names' r) = vessels.says (vessel.pv2T r p v limit)
     by Nothing' = refl
 says (Tv2p region T v limit) = in-region _ T v _ (λ r. vessels.says (vessel.Tv2p r T v limit)) (regionNamed region)
 says (Th2p region T h limit) = in-region _ T h _ (λ r. vessels.says (vessel.Th2p r T h limit)) (regionNamed region)
@@ -62,17 +61,17 @@ says (Ts2p region T s limit) = in-region _ T s _ (λ r. vessels.says (vessel.Ts2
 is : (n k : ℕ) → eqb n k ≡ true → k ≡ n
 is n k h = sym (eqb→eq n k (subst T (sym h) tt))
 
-pub region-told : (n : ℕ) → (regionNumber (regionNamed n) ≡ n) ⊎ (regionNumber (regionNamed n) ≡ 0)
+pub region-told : (n : ℕ) → (regionNumber (regionNamed n) ≡ n) ⊎ ((regionNumber (regionNamed n) ≡ 0) × None (regions n))
 unfolding regionNamed
-region-told n = decides (λ a. (regionNumber a ≡ n) ⊎ (regionNumber a ≡ 0)) (regions n) Nothing ((λ h. inl (is n 1 h)), ((λ h. inl (is n 2 h)), tt)) (λ h. inr refl)
+region-told n = decides (λ a. (regionNumber a ≡ n) ⊎ ((regionNumber a ≡ 0) × None (regions n))) (regions n) Nothing ((λ h. inl (is n 1 h)), ((λ h. inl (is n 2 h)), tt)) (λ h. inr (refl, h))
 
-pub pv-region-told : (n : ℕ) → (regionNumber (ofPv (pvRegionNamed n)) ≡ n) ⊎ (regionNumber (ofPv (pvRegionNamed n)) ≡ 0)
+pub pv-region-told : (n : ℕ) → (regionNumber (ofPv (pvRegionNamed n)) ≡ n) ⊎ ((regionNumber (ofPv (pvRegionNamed n)) ≡ 0) × None (pvRegions n))
 unfolding pvRegionNamed
-pv-region-told n = decides (λ a. (regionNumber (ofPv a) ≡ n) ⊎ (regionNumber (ofPv a) ≡ 0)) (pvRegions n) Nothing' ((λ h. inl (is n 1 h)), ((λ h. inl (is n 2 h)), tt)) (λ h. inr refl)
+pv-region-told n = decides (λ a. (regionNumber (ofPv a) ≡ n) ⊎ ((regionNumber (ofPv a) ≡ 0) × None (pvRegions n))) (pvRegions n) Nothing' ((λ h. inl (is n 1 h)), ((λ h. inl (is n 2 h)), tt)) (λ h. inr (refl, h))
 
-pub property-told : (n : ℕ) → (propertyNumber (propertyNamed n) ≡ n) ⊎ (propertyNumber (propertyNamed n) ≡ 0)
+pub property-told : (n : ℕ) → (propertyNumber (propertyNamed n) ≡ n) ⊎ ((propertyNumber (propertyNamed n) ≡ 0) × None (properties n))
 unfolding propertyNamed
 property-told n =
-    decides (λ a. (propertyNumber a ≡ n) ⊎ (propertyNumber a ≡ 0)) (properties n) Nothing''
+    decides (λ a. (propertyNumber a ≡ n) ⊎ ((propertyNumber a ≡ 0) × None (properties n))) (properties n) Nothing''
     ((λ h. inl (is n 1 h)), ((λ h. inl (is n 2 h)), ((λ h. inl (is n 3 h)), ((λ h. inl (is n 4 h)), ((λ h. inl (is n 5 h)), ((λ h. inl (is n 6 h)), ((λ h. inl (is n 7 h)), tt)))))))
-    (λ h. inr refl)
+    (λ h. inr (refl, h))

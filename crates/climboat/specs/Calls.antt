@@ -7,7 +7,6 @@ use Rattle.vessel.specs.Answer.{refused}
 use Rattle.vessel.specs.Calls as calls
 use Rattle.vessel.specs.Searches as searches
 use Rattle.vessel.specs.declared.asked.Asked.{Asked}
-use Rattle.vessel.specs.declared.asked.Kind.{Kind}
 use Rattle.vessel.specs.declared.asked.Kind.the-variants.{Pv, Tv, Th, Ts}
 use Rattle.vessel.specs.declared.asked.NamedRegion.{NamedRegion}
 use Rattle.vessel.specs.declared.asked.NamedRegion.the-variants.{Names, Nothing}

@@ -1,10 +1,9 @@
 -- Every call of the C interface with its arguments: what it asks, by the numbers that it is given, and what it answers. proofs/EveryCall.antt is the one theorem that covers all, 21 included.
 use Prim.Native.Nat.{ℕ}
 use lib.Ieee.{Float}
-use Rattle.pairs.specs.declared.row.Region.the-variants.{One, Two}
 use Rattle.vessel.specs.Asked.{atState, onLine, ofPair}
 use Rattle.vessel.specs.Calls as lines
-use Rattle.vessel.specs.declared.pair.PvRegion.the-variants.{One as One', Two as Two'}
+use Rattle.vessel.specs.EveryCall.{regionOf}
 use Rattle.vessel.specs.declared.asked.Asked.{Asked}
 use Rattle.vessel.specs.declared.asked.Kind as kind
 use Rattle.vessel.specs.declared.asked.NamedRegion.{NamedRegion}
@@ -29,8 +28,7 @@ pub data Call : Type 0 where
 
 -- the region of (p,v), among all regions
 abbrev pub ofPv : NamedPvRegion → NamedRegion
-ofPv (Names' One') = Names One
-ofPv (Names' Two') = Names Two
+ofPv (Names' region) = Names (regionOf region)
 ofPv Nothing' = Nothing
 
 abbrev pub asks : Call → Asked

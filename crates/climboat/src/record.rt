@@ -65,7 +65,16 @@ pub fn doubles(answer: Answer) -> [f64; 8]
     ensures { λ r. ⌜ r ≡ doublesOf answer ⌝ }
 {
     match answer {
-        Answer::Value(asked, x) => [x, 0.0, 0.0, 0.0, 0.0, asked.first, asked.second, 0.0],
+        Answer::Value(asked, x) => fractions(
+            x,
+            Bracket {
+                x1: 0.0,
+                x2: 0.0,
+                r1: 0.0,
+                r2: 0.0,
+            },
+            asked,
+        ),
         Answer::ExactEnd(asked, f) => fractions(f.value, f.bracket, asked),
         Answer::SmallResidual(asked, f) => fractions(f.value, f.bracket, asked),
         Answer::Narrow(asked, f) => fractions(f.value, f.bracket, asked),

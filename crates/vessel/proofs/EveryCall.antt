@@ -1,10 +1,7 @@
--- The question in the answer is the question asked: one theorem over all calls, of whatever arguments, answers and refusals alike. Assumes nothing.
+-- The question in the answer is the question asked: one theorem over all calls, of whatever arguments, answers and refusals alike; and a call that does not search has residuals 0 and 0. Assumes nothing.
 use Prim.Native.Nat.{ℕ}
 use mathlib.Core.Path.{_≡_, refl}
-use mathlib.Core.Bool.{Bool, true, false, not, cond}
-use mathlib.Core.List.{List, [], _∷_}
-use lib.Dec.{eqb}
-use lib.Ieee.Scale.{finite}
+use mathlib.Core.Bool.{Bool}
 use Rattle.common.specs.declared.boundaries.Boundary.{Boundary}
 use Rattle.common.specs.declared.boundaries.Boundary.the-variants.{At, Refused as OutOfRange}
 use Rattle.search.specs.declared.bracket.Outcome.{Outcome}
@@ -15,7 +12,8 @@ use Rattle.pairs.specs.declared.question.Question.{Question}
 use Rattle.vessel.specs.Answer.{line, answered, columns, valueOf}
 use Rattle.vessel.specs.Calls as calls
 use Rattle.vessel.specs.Searches.{outcome, mark, asked, search as searchOf}
-use Rattle.vessel.specs.EveryCall.{Call, pT, saturationPressure, saturationTemperature, B23Pressure, B23Temperature, pv2T, Tv2p, Th2p, Ts2p, asks, answers}
+use Rattle.vessel.specs.EveryCall.{Call, pT, saturationPressure, saturationTemperature, B23Pressure, B23Temperature, pv2T, Tv2p, Th2p, Ts2p, asks, NoSearch, answers}
+use Rattle.vessel.specs.Residuals.{BothNought}
 use Rattle.vessel.specs.declared.pair.PvRegion.the-variants.{One as One', Two as Two'}
 use Rattle.vessel.specs.declared.asked.Asked.{Asked}
 use Rattle.vessel.specs.declared.answer.Answer.{Answer}
@@ -54,3 +52,23 @@ says (Th2p One T h limit) = of-search _ limit
 says (Th2p Two T h limit) = of-search _ limit
 says (Ts2p One T s limit) = of-search _ limit
 says (Ts2p Two T s limit) = of-search _ limit
+
+-- ---- and without a search the residuals are 0 and 0
+line-nought : (a : Asked) (boundary : Boundary) → BothNought (columns (line a boundary))
+unfolding line
+line-nought a (At x) = (refl, refl)
+line-nought a (OutOfRange n) = (refl, refl)
+
+pub without-search : (call : Call) → NoSearch call → BothNought (columns (answers call))
+unfolding calls.property calls.saturation-pressure calls.saturation-temperature calls.B23-pressure calls.B23-temperature
+without-search (pT region q p T) u =
+    decides (λ (a : Answer). BothNought (columns a)) (calls.propertyChecks region q p T) (Value (calls.asksFor region q p T) (calls.formula region q p T))
+    ((λ h. (refl, refl)), ((λ h. (refl, refl)), tt)) (λ h. (refl, refl))
+without-search (saturationPressure T) u = line-nought _ _
+without-search (saturationTemperature p) u = line-nought _ _
+without-search (B23Pressure T) u = line-nought _ _
+without-search (B23Temperature p) u = line-nought _ _
+without-search (pv2T region p v limit) u = absurd u
+without-search (Tv2p region T v limit) u = absurd u
+without-search (Th2p region T h limit) u = absurd u
+without-search (Ts2p region T s limit) u = absurd u

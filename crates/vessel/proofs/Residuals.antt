@@ -18,13 +18,13 @@ use Rattle.pairs.specs.Residual.{rowOf, residual}
 use Rattle.pairs.specs.Pairs.{steps, lowerEnd, upperEnd, start}
 use Rattle.pairs.proofs.Doubles.{lower-double, upper-double}
 use Rattle.pairs.specs.declared.question.Question.{Question}
-use Rattle.vessel.specs.Answer.{Columns, columns, residualTold, answered, valueOf}
+use Rattle.vessel.specs.Answer.{columns, residualTold, answered, valueOf}
 use Rattle.vessel.specs.Searches.{checks, outcome, mark, asked, search as searchOf}
 use Rattle.vessel.specs.Demand.{Early}
 use Rattle.vessel.specs.Residuals.{orNought, Residuals}
 use Rattle.vessel.proofs.Demand.{out-of-range}
 
--- for 6, and for a number that is not 6
+-- for 6
 told-by-6 : (r : Float) → residualTold 6 r ≡ orNought r
 unfolding residualTold
 told-by-6 r = by (finite r)

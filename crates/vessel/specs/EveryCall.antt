@@ -43,6 +43,18 @@ asks (Tv2p region T v limit) = record { kind = kind.the-variants.Tv; region = In
 asks (Th2p region T h limit) = record { kind = kind.the-variants.Th; region = InRegion region; property = NoProperty; first = T; second = h }
 asks (Ts2p region T s limit) = record { kind = kind.the-variants.Ts; region = InRegion region; property = NoProperty; first = T; second = s }
 
+-- the calls that do not search
+abbrev pub NoSearch : Call → Type 0
+NoSearch (pT region property p T) = Prim.Unit {0}
+NoSearch (saturationPressure T) = Prim.Unit {0}
+NoSearch (saturationTemperature p) = Prim.Unit {0}
+NoSearch (B23Pressure T) = Prim.Unit {0}
+NoSearch (B23Temperature p) = Prim.Unit {0}
+NoSearch (pv2T region p v limit) = ⊥
+NoSearch (Tv2p region T v limit) = ⊥
+NoSearch (Th2p region T h limit) = ⊥
+NoSearch (Ts2p region T s limit) = ⊥
+
 abbrev pub answers : Call → Answer
 answers (pT region property p T) = calls.property region property p T
 answers (saturationPressure T) = calls.saturation-pressure T
