@@ -93,8 +93,11 @@ impl Clone {
     }
 
     fn command(&self) -> Command {
-        let mut command = Command::new(self.0.join("bin/bash"));
+        // a shell ignores interrupts in what it starts behind itself: where these tests run so, the script is to hear them all the same
+        let mut command = Command::new("/usr/bin/env");
         command
+            .arg("--default-signal=INT")
+            .arg(self.0.join("bin/bash"))
             .arg(self.0.join("climboat"))
             .args(["sat", "T 1"])
             .env("PATH", self.0.join("bin"));
