@@ -18,7 +18,7 @@ extern "C" {
 #endif
 
 /* The version of Climboat, and what it follows. */
-#define CLIMBOAT_VERSION "0.3.0"
+#define CLIMBOAT_VERSION "0.4.0"
 #define CLIMBOAT_FOLLOWS "seuif97 2.3.8 and IAPWS R7-97(2012)"
 
 /* The region, always named by the caller; CLIMBOAT_NO_REGION and any other number are refused by CLIMBOAT_NOTHING_NAMED. */
@@ -86,16 +86,18 @@ enum climboat_refusal {
     CLIMBOAT_NOTHING_NAMED = 21       /* the number given for a region or a property names nothing */
 };
 
-/* The step limit that the vessels use, and the largest that a search takes. */
+/* CLIMBOAT_STEP_LIMIT is the step limit that the vessels use, CLIMBOAT_LARGEST_STEP_LIMIT the largest that a search takes: one above it is refused by 11. Up to it a larger limit never
+ * changes an answer or a refusal other than 8: every column of the record stays, bit for bit. 8 alone may turn into something else: an answer, 6 or 10. */
 #define CLIMBOAT_STEP_LIMIT 20000u
-#define CLIMBOAT_LARGEST_STEP_LIMIT 20000u
+#define CLIMBOAT_LARGEST_STEP_LIMIT 65535u
 
 /* What every call answers, and what that is of. number is CLIMBOAT_ANSWERED, or a refusal's number; value counts only where it is CLIMBOAT_ANSWERED.
  * A residual compares the target of a search, its second input, with what is found at an end of the bracket by the same property's formula: above 0 the target is the larger. */
 struct climboat_answer {
     uint32_t number;         /* enum climboat_refusal */
     uint32_t reason;         /* enum climboat_reason */
-    uint32_t steps;          /* evaluations after the two ends; 0 without a search */
+    uint32_t steps;          /* evaluations after the two ends; 0 without a search. A limit is enough for this answer from steps on, of (p,v) in region 1 and (T,v) in region 2, from
+                                steps + 1 on, of the other searches, and from 0 on for an exact end; under every smaller one it is refused by 8 */
     uint32_t mark;           /* enum climboat_mark */
     double value;            /* the answer; 0 for a refusal, but for 8 the last point */
     double lower;            /* the bracket at the search's last test, lower end first; 0 and 0 without one */
@@ -250,7 +252,7 @@ static inline const char *climboat_sentence(uint32_t number)
     case CLIMBOAT_STEPS_SPENT: return "the step limit was reached before an answer";
     case CLIMBOAT_RESULT_NOT_FINITE: return "a property, saturation or B23 result is not finite";
     case CLIMBOAT_POINT_OUTSIDE: return "the next point of the search is outside its bracket";
-    case CLIMBOAT_LIMIT_TOO_LARGE: return "the step limit is above 20000";
+    case CLIMBOAT_LIMIT_TOO_LARGE: return "the step limit is above 65535";
     case CLIMBOAT_NOTHING_NAMED: return "the number given for a region or a property names nothing";
     default: return "no refusal has this number";
     }

@@ -142,14 +142,6 @@ static void ask_all(struct environment there, const struct question *questions, 
     }
 }
 
-/* Answers are compared as bytes, so that inputs and zeros count by their bits. */
-_Static_assert(sizeof(struct climboat_answer) == 8 * sizeof(uint32_t) + 7 * sizeof(double), "eight numbers and seven doubles, without a gap");
-
-static bool same(const struct climboat_answer *a, const struct climboat_answer *b)
-{
-    return memcmp(a, b, sizeof *a) == 0;
-}
-
 /* How the outcomes of another environment differ from those of the default one, in any column, bit for bit. */
 struct difference {
     uint32_t differ;
@@ -164,7 +156,7 @@ static bool is_by_residual(const struct climboat_answer *our, struct climboat_an
 {
     their.lower_residual = our->lower_residual;
     their.upper_residual = our->upper_residual;
-    return same(our, &their);
+    return same_answer(our, &their);
 }
 
 static bool is_tiny_volume(const struct question *q, const struct climboat_answer *our, const struct climboat_answer *their)
@@ -179,7 +171,7 @@ static struct difference compare(const struct question *questions, const struct 
     char text[200];
     uint32_t i;
     for (i = 0; i < QUESTIONS; i++) {
-        if (same(&ours[i], &theirs[i])) continue;
+        if (same_answer(&ours[i], &theirs[i])) continue;
         d.differ++;
         d.answers += climboat_is_answered(ours[i]);
         d.by_number += ours[i].number != theirs[i].number;

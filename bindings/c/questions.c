@@ -22,6 +22,25 @@ uint32_t target_of(enum climboat_kind kind)
     }
 }
 
+bool is_bisection(const struct climboat_answer *answer)
+{
+    return (answer->kind == CLIMBOAT_KIND_PV && answer->region == CLIMBOAT_REGION_1) || (answer->kind == CLIMBOAT_KIND_TV && answer->region == CLIMBOAT_REGION_2);
+}
+
+struct climboat_answer found_at(const struct climboat_answer *answer, double end)
+{
+    uint32_t target = target_of(answer->kind);
+    return answer->kind == CLIMBOAT_KIND_PV ? climboat_pT(answer->region, target, answer->first, end) : climboat_pT(answer->region, target, end, answer->first);
+}
+
+/* Bytes are compared, so that inputs and zeros count by their bits. */
+_Static_assert(sizeof(struct climboat_answer) == 8 * sizeof(uint32_t) + 7 * sizeof(double), "eight numbers and seven doubles, without a gap");
+
+bool same_answer(const struct climboat_answer *a, const struct climboat_answer *b)
+{
+    return memcmp(a, b, sizeof *a) == 0;
+}
+
 struct climboat_answer ask(const struct question *q)
 {
     switch (q->kind) {
@@ -169,7 +188,7 @@ static bool takes_p_first(enum climboat_kind kind)
 
 struct question draw_question(void)
 {
-    static const uint32_t limits[] = {0, 1, 40, 20000, 20000, 20000, 20000, 20001};
+    static const uint32_t limits[] = {0, 1, 40, CLIMBOAT_STEP_LIMIT, CLIMBOAT_STEP_LIMIT, CLIMBOAT_STEP_LIMIT, CLIMBOAT_LARGEST_STEP_LIMIT, CLIMBOAT_LARGEST_STEP_LIMIT + 1};
     struct question q;
     double p, T;
     q.kind = (enum climboat_kind)(1 + draw_below(KINDS));

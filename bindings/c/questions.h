@@ -22,6 +22,15 @@ bool has_two_inputs(enum climboat_kind kind);
 /* The property that a search has as its target; CLIMBOAT_NO_PROPERTY for a call that does not search. */
 uint32_t target_of(enum climboat_kind kind);
 
+/* Whether an answer's search is one by bisection; the other searches are Brent's. */
+bool is_bisection(const struct climboat_answer *answer);
+
+/* The target's property at an end of an answer's bracket. */
+struct climboat_answer found_at(const struct climboat_answer *answer, double end);
+
+/* Whether every column is the same, bit for bit. */
+bool same_answer(const struct climboat_answer *a, const struct climboat_answer *b);
+
 struct climboat_answer ask(const struct question *q);
 
 /* The question as the call that asks it. */

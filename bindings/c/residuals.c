@@ -24,19 +24,11 @@ static bool same_bits(double a, double b)
     return memcmp(&a, &b, sizeof a) == 0;
 }
 
-/* The target's property at an end of the bracket. */
-static struct climboat_answer found_at(const struct climboat_answer *a, double end)
-{
-    uint32_t target = target_of(a->kind);
-    return a->kind == CLIMBOAT_KIND_PV ? climboat_pT(a->region, target, a->first, end) : climboat_pT(a->region, target, end, a->first);
-}
-
 /* Bisection takes it as a part of the target. */
 static double residual(const struct climboat_answer *a, double found)
 {
-    bool bisection = (a->kind == CLIMBOAT_KIND_PV && a->region == CLIMBOAT_REGION_1) || (a->kind == CLIMBOAT_KIND_TV && a->region == CLIMBOAT_REGION_2);
     double apart = a->second - found;
-    return bisection ? apart / a->second : apart;
+    return is_bisection(a) ? apart / a->second : apart;
 }
 
 /* Whether this is the residual at the end; for 6 one that is not finite is given as 0. */

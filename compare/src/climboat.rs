@@ -109,8 +109,9 @@ pub const NARROW: u32 = 4;
 pub const INSIDE: u32 = 1;
 pub const OUTSIDE: u32 = 2;
 
-/// The largest step limit that a search takes.
-pub const LARGEST_LIMIT: u32 = 20_000;
+/// The step limit that the vessels use, and the largest that a search takes.
+pub const VESSELS_LIMIT: u32 = 20_000;
+pub const LARGEST_LIMIT: u32 = 65_535;
 
 /// Every column 0.
 #[rustfmt::skip]

@@ -1,6 +1,6 @@
 //! The eight pair searches against the original crate: how many answers differ, how far and why, each kind with the input that is shortest to write.
 
-use crate::climboat::{self, Pair, Record, EXACT_END, NARROW, SMALL_RESIDUAL};
+use crate::climboat::{self, Pair, Record, EXACT_END, LARGEST_LIMIT, NARROW, SMALL_RESIDUAL};
 use crate::draw::{same, Draw};
 use crate::pairs::{Search, LIMIT, SEARCHES};
 use std::collections::BTreeMap;
@@ -35,7 +35,8 @@ fn differ(search: &Search, seed: u64) -> bool {
     for (fixed, x) in states {
         search.meet(&Input { fixed, target: search.at(fixed, x), of: Some(x) }, true, &mut kinds, &mut elsewhere);
     }
-    println!("{}: {} states against the original", search.name, kinds.values().map(|kind| kind.met).sum::<u64>());
+    let states: u64 = kinds.values().map(|kind| kind.met).sum();
+    println!("{}: {states} states against the original; an outcome that is another one under the limit {LARGEST_LIMIT} is unexplained", search.name);
     for (name, kind) in &kinds {
         println!("  {name}: {}", kind.told(name == SAME));
     }
@@ -151,12 +152,12 @@ impl Search {
         }
     }
 
-    /// What an outcome and the original's answer, none where it panics, are to each other.
+    /// What an outcome and the original's answer, none where it panics, are to each other; unexplained if the outcome does not say what it is of, or is another one under the largest limit.
     fn kind(&self, input: &Input, ours: Record, answer: Option<f64>) -> String {
         let (low, high) = (self.ends)(input.fixed);
         let from = if low == -9999.0 || high == -9999.0 { " with -9999 as an end" } else { "" };
         match (ours.number, answer) {
-            _ if !self.says_what(input.fixed, input.target, &ours) => UNEXPLAINED.into(),
+            _ if !self.says_what(input.fixed, input.target, &ours) || !self.stays(input.fixed, input.target, &ours) => UNEXPLAINED.into(),
             (0, Some(y)) => self.both(input, ours, y).into(),
             (0, None) if self.at_end(input.fixed, input.of.unwrap_or(ours.value)) => "answered, the original panics: at an end".into(),
             (7, None) if input.of.is_some_and(|x| self.at_end(input.fixed, x)) => "refused by 7, the original panics: at an end".into(),

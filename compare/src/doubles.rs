@@ -1,7 +1,8 @@
-//! Any two doubles: pairs of random bit patterns and plausible pairs, each over every public call, against the second reading of the refusal table.
+//! Any two doubles: pairs of random bit patterns and plausible pairs, each over every public call, against the second reading of the refusal table; and every search under a second limit, against what the step counts promise.
 
 use crate::climboat::{Record, EXACT_END, INSIDE, NARROW, OUTSIDE, SMALL_RESIDUAL, VALUE};
 use crate::draw::Draw;
+use crate::patience::{Outcome, Turned};
 use crate::plausible;
 use crate::question::{Question, LINES, PAIRS};
 use copy::run::same_sign;
@@ -65,7 +66,11 @@ fn asked(kind: Kind, seed: u64, n: u64, first: u64) -> Counts {
         for _ in 0..BLOCK.min(n - block * BLOCK) {
             let (a, b) = kind(&mut draw);
             for question in questions(&mut draw, a, b) {
-                counts.meet(&question);
+                let record = counts.meet(&question);
+                if matches!(question, Question::Search(..)) {
+                    let second = question.under(plausible::limit(&mut draw));
+                    counts.hold(&Outcome { question, record }, &Outcome::of(second));
+                }
             }
         }
     }
@@ -134,6 +139,7 @@ fn says_what(question: &Question, record: &Record) -> bool {
 /// How often each call gave each outcome: a refusal at its number, an answer after them by its reason and mark.
 struct Counts {
     met: [[u64; OUTCOMES]; ROWS],
+    turned: Turned,
     differ: u64,
 }
 
@@ -158,26 +164,39 @@ fn outcome(record: &Record) -> usize {
 
 impl Counts {
     fn new() -> Counts {
-        Counts { met: [[0; OUTCOMES]; ROWS], differ: 0 }
+        Counts { met: [[0; OUTCOMES]; ROWS], turned: Turned::default(), differ: 0 }
     }
 
     fn with(mut self, other: &Counts) -> Counts {
         for (here, there) in self.met.as_flattened_mut().iter_mut().zip(other.met.as_flattened()) {
             *here += there;
         }
+        self.turned.with(&other.turned);
         self.differ += other.differ;
         self
     }
 
-    fn meet(&mut self, question: &Question) {
+    fn meet(&mut self, question: &Question) -> Record {
         let (ours, second) = (question.climboat(), question.table());
         if ours.same(&second) && formed(question, &ours) {
             self.met[row(question)][outcome(&ours)] += 1;
-            return;
+        } else {
+            self.differs(|| format!("{}: {ours:?}; the second reading {second:?}", question.digits()));
         }
+        ours
+    }
+
+    /// One search under two limits.
+    fn hold(&mut self, one: &Outcome, other: &Outcome) {
+        if !self.turned.hold(one, other) {
+            self.differs(|| format!("{}: {:?}; under the limit {} {:?}", one.question.digits(), one.record, other.question.limit(), other.record));
+        }
+    }
+
+    fn differs(&mut self, told: impl FnOnce() -> String) {
         self.differ += 1;
         if self.differ <= 5 {
-            println!("  differs at {}: {ours:?}; the second reading {second:?}", question.digits());
+            println!("  differs at {}", told());
         }
     }
 
@@ -189,6 +208,7 @@ impl Counts {
             println!("  {region}{call}: {}", parts.join(", "));
         }
         let never: Vec<String> = NUMBERS.iter().filter(|&&n| self.met.iter().all(|met| met[n as usize] == 0)).map(u32::to_string).collect();
+        println!("  {} searches under a second limit: {}", self.turned.held, self.turned.told());
         println!("  refusals that never occurred: {}; {} differ", if never.is_empty() { String::from("none") } else { never.join(", ") }, self.differ);
     }
 }

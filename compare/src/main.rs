@@ -13,6 +13,8 @@ mod nans;
 #[cfg(feature = "original")]
 mod pairs;
 #[cfg(feature = "original")]
+mod patience;
+#[cfg(feature = "original")]
 mod plausible;
 mod question;
 #[cfg(feature = "original")]

@@ -1,6 +1,6 @@
 //! The eight pair searches, each as Climboat, the test copy and the original crate have it, and the states at which they are compared.
 
-use crate::climboat::{Pair, Record};
+use crate::climboat::{Pair, Record, LARGEST_LIMIT};
 use crate::draw::Draw;
 use crate::equations::{most, region_1, region_2};
 use crate::question::Question;
@@ -79,6 +79,11 @@ impl Search {
 
     pub fn ours(&self, fixed: f64, target: f64, limit: u32) -> Record {
         self.question(fixed, target, limit).climboat()
+    }
+
+    /// Whether an outcome under the original's limit is the same record under the largest.
+    pub fn stays(&self, fixed: f64, target: f64, ours: &Record) -> bool {
+        self.ours(fixed, target, LARGEST_LIMIT).same(ours)
     }
 
     /// (p,T) of the input that is fixed and a point x of the search.

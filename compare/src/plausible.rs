@@ -1,6 +1,6 @@
 //! Plausible inputs of the public calls: over the ranges and around them, at their limits, and targets of real states.
 
-use crate::climboat::{self, Pair};
+use crate::climboat::{self, Pair, LARGEST_LIMIT, VESSELS_LIMIT};
 use crate::draw::Draw;
 use crate::table::{Search, SEARCHES};
 
@@ -122,12 +122,13 @@ pub fn pair(draw: &mut Draw) -> (f64, f64) {
     }
 }
 
-/// The step limits that are recorded, any that a search may just meet, and any at all.
+/// The step limits that are recorded, the first that is too large among them, any that Brent's search or bisection may just meet, and any at all.
 pub fn limit(draw: &mut Draw) -> u32 {
-    match draw.below(12) {
-        n @ 0..=5 => [0, 1, 2, 5, 20, 20_001][n as usize],
-        6 => draw.below(64) as u32,
-        7 => (draw.bits() as u32) >> draw.below(32),
-        _ => 20_000,
+    match draw.below(16) {
+        n @ 0..=7 => [0, 1, 2, 5, 20, VESSELS_LIMIT + 1, LARGEST_LIMIT, LARGEST_LIMIT + 1][n as usize],
+        8..=11 => draw.below(12) as u32,
+        12 => draw.below(64) as u32,
+        13 => (draw.bits() as u32) >> draw.below(32),
+        _ => VESSELS_LIMIT,
     }
 }

@@ -56,6 +56,20 @@ impl Question {
         self.given().3
     }
 
+    #[cfg(feature = "original")]
+    pub fn limit(&self) -> u32 {
+        self.given().2
+    }
+
+    /// The same search under another limit; a call that does not search has none.
+    #[cfg(feature = "original")]
+    pub fn under(&self, limit: u32) -> Question {
+        match *self {
+            Question::Search(pair, region, fixed, target, _) => Question::Search(pair, region, fixed, target, limit),
+            other => other,
+        }
+    }
+
     /// The columns that say what a record is of, and no outcome: a region or a property that names nothing is 0.
     pub fn asked(&self) -> Record {
         let (region, property, _, [first, second]) = self.given();

@@ -1,7 +1,8 @@
 //! The recorded answers: questions for the program `replay`, and what the second reading of the table over the test copy answers to each.
 
-use crate::climboat::{Line, Pair, Record, EXACT_END, INSIDE, SMALL_RESIDUAL, VALUE};
+use crate::climboat::{Line, Pair, Record, EXACT_END, INSIDE, LARGEST_LIMIT, SMALL_RESIDUAL, VALUE, VESSELS_LIMIT};
 use crate::draw::Draw;
+use crate::patience::enough;
 use crate::plausible::{self, beside, magnitude, NAN, PRESSURES, TEMPERATURES};
 use crate::question::{Question, LINES, PAIRS};
 use crate::table::{Search, SEARCHES};
@@ -12,6 +13,12 @@ const FOLDER: &str = "crates/replay";
 
 /// Step limits, each with how many drawn pairs it gets in every search.
 const LIMITS: [(u32, usize); 7] = [(0, 12), (1, 16), (2, 16), (5, 24), (20, 36), (20_000, 80), (20_001, 4)];
+
+/// The same for the questions about the largest limit, which come behind all others.
+const LARGEST_LIMITS: [(u32, usize); 2] = [(LARGEST_LIMIT, 12), (LARGEST_LIMIT + 1, 4)];
+
+/// How many answers of every search are recorded under one step less than enough and under larger limits.
+const TURNED: usize = 6;
 
 /// Three NaN, among them one that signals, the infinities, both zeros, the least and the largest double of either sign, -1.
 const STRANGE: [u64; 12] = [
@@ -135,9 +142,32 @@ fn questions() -> Vec<Question> {
             list.extend((0..times).map(|_| drawn(&mut draw, search, limit)));
         }
     }
+    list.extend(patience());
     let mut seen = HashSet::new();
     list.retain(|question| seen.insert(question.digits()));
     list
+}
+
+/// The questions about the largest limit. They have a draw of their own, so that those before them stay as they were recorded.
+fn patience() -> Vec<Question> {
+    let mut draw = Draw::new(0x0c1b_0a70_0000_0045);
+    let mut list = Vec::new();
+    for search in &SEARCHES {
+        list.extend(in_order(search).map(|fixed| too_large(search, fixed, LARGEST_LIMIT + 1)));
+        for (limit, times) in LARGEST_LIMITS {
+            list.extend((0..times).map(|_| drawn(&mut draw, search, limit)));
+        }
+        let turned = std::iter::repeat_with(|| drawn(&mut draw, search, LARGEST_LIMIT)).filter_map(|question| turned(&question));
+        list.extend(turned.take(TURNED).flatten());
+    }
+    list
+}
+
+/// Where steps find an answer: one less than is enough for it, enough, one more, and the limits that vessels and programs use.
+fn turned(question: &Question) -> Option<[Question; 6]> {
+    let answer = question.table();
+    let least = enough(&answer).filter(|&least| answer.number == 0 && least > 0)?;
+    Some([least - 1, least, least + 1, VESSELS_LIMIT, VESSELS_LIMIT + 1, LARGEST_LIMIT].map(|limit| question.under(limit)))
 }
 
 /// Document 01's readings 10 to 16.
@@ -245,13 +275,22 @@ fn edges(search: &Search) -> Vec<Question> {
 
 /// Several refusals at once, so that their order shows.
 fn order(search: &Search) -> Vec<Question> {
-    let fixed = if search.pair == Pair::Pv { 1.0 } else { 500.0 };
     let mut list = Vec::new();
-    for x in [NAN, 0.0, 2000.0, fixed] {
-        list.push(Question::Search(search.pair, search.region, x, -1.0, 20_001));
+    for x in in_order(search) {
+        list.push(too_large(search, x, 20_001));
         list.extend([NAN, -1.0, 0.0, -0.0, 5.0e-324].map(|target| Question::Search(search.pair, search.region, x, target, 20_000)));
     }
     list
+}
+
+/// What is fixed: no number, two out of range, and an ordinary one.
+fn in_order(search: &Search) -> [f64; 4] {
+    [NAN, 0.0, 2000.0, if search.pair == Pair::Pv { 1.0 } else { 500.0 }]
+}
+
+/// With a target that is refused too if it is a volume, under a limit that is too large; 20,001 was when its questions were recorded.
+fn too_large(search: &Search, fixed: f64, limit: u32) -> Question {
+    Question::Search(search.pair, search.region, fixed, -1.0, limit)
 }
 
 fn drawn(draw: &mut Draw, search: &Search, limit: u32) -> Question {

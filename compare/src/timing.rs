@@ -1,6 +1,6 @@
 //! Timings against Rust's own, and of the public calls against the formulas in them, as ratios from one run: the median of nine.
 
-use crate::climboat::{self, Line, Pair, LARGEST_LIMIT};
+use crate::climboat::{self, Line, Pair, VESSELS_LIMIT};
 use crate::draw::Draw;
 use std::hint::black_box;
 use std::time::Instant;
@@ -102,7 +102,7 @@ fn search(pair: Pair, region: u32, name: &str, states: &[(f64, f64)]) {
         Pair::Ts => "s",
     };
     let (.., formula) = PROPERTIES.into_iter().find(|&(of, _, property, _)| of == region && property == sought).expect("v, h or s");
-    let ours = |p: f64, t: f64, target: f64| climboat::search(pair, region, if pair == Pair::Pv { p } else { t }, target, LARGEST_LIMIT);
+    let ours = |p: f64, t: f64, target: f64| climboat::search(pair, region, if pair == Pair::Pv { p } else { t }, target, VESSELS_LIMIT);
     let mut inputs: Vec<(f64, f64, f64)> = states.iter().map(|&(p, t)| (p, t, formula(p, t))).collect();
     inputs.retain(|&(p, t, target)| ours(p, t, target).number == 0);
     row(name, &inputs, |&(p, t, target)| ours(p, t, target).value, |&(p, t, _)| formula(p, t));

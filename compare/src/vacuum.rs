@@ -1,6 +1,6 @@
 //! Region 2 (T,v) from a low vacuum up to 100 MPa: v computed at (p,T) and searched back, by the crate's narrow rule and by Climboat's. Makes the table of docs/DIFFERENCES.md.
 
-use crate::climboat::{Pair, Record, EXACT_END, INSIDE, NARROW, SMALL_RESIDUAL};
+use crate::climboat::{Pair, Record, EXACT_END, INSIDE, LARGEST_LIMIT, NARROW, SMALL_RESIDUAL};
 use crate::differences::CRATES_WIDTH;
 use crate::draw::same;
 use crate::pairs::{Search, LIMIT, SEARCHES};
@@ -34,7 +34,7 @@ pub fn command(words: &[&str]) -> bool {
     match words {
         [] => print!("{table}"),
         ["--check"] => {
-            println!("vacuum: {} states from 1.0e-8 to 100 MPa searched back, {} not within what their reason says", states().count(), faults.len());
+            println!("vacuum: {} states from 1.0e-8 to 100 MPa searched back, {} not within what their reason says or another record under the limit {LARGEST_LIMIT}", states().count(), faults.len());
             return check(&table) & faults.is_empty();
         }
         _ => {
@@ -122,7 +122,7 @@ impl State {
         (value - self.p).abs() / self.p
     }
 
-    /// What is wrong with the two answers, if anything: before must be the crate's own answer, after must hold what its reason says, and say what it is of.
+    /// What is wrong with the two answers, if anything: before must be the crate's own answer, after must hold what its reason says, say what it is of, and stay the same under the largest limit.
     fn fault(&self, search: &Search) -> Option<String> {
         let Record { number, reason, value, lower, upper, .. } = self.after;
         let at = |x: f64| search.residual(self.t, self.v, x);
@@ -141,7 +141,8 @@ impl State {
         };
         let State { t, p, before, after, .. } = self;
         let says_what = search.says_what(self.t, self.v, &self.after);
-        (!good || !the_crates || !says_what).then(|| format!("T = {t:?}, p = {p:?}: before {before:?}, the crate {crates:?}, after {after:?}"))
+        let stays = search.stays(self.t, self.v, &self.after);
+        (!good || !the_crates || !says_what || !stays).then(|| format!("T = {t:?}, p = {p:?}: before {before:?}, the crate {crates:?}, after {after:?}"))
     }
 }
 

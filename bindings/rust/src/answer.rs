@@ -57,7 +57,18 @@ pub struct Bracket {
 #[non_exhaustive]
 #[derive(Clone, Copy, Debug, PartialEq)]
 pub struct Search {
-    /// The evaluations after the two ends.
+    /// The evaluations after the two ends. They say what limit is enough for this answer: `steps` in region 1 (p,v) and region 2 (T,v), `steps + 1` in the other searches, 0 for an exact end.
+    /// From there on it is the same answer, bit for bit; under every smaller limit it is refused by 8.
+    ///
+    /// ```
+    /// use climboat::{tv2p, Cause, Region, STEP_LIMIT};
+    ///
+    /// let pressure = tv2p(Region::Two, 500.0, 0.1, STEP_LIMIT)?;
+    /// let steps = pressure.search.unwrap().steps;
+    /// assert_eq!(tv2p(Region::Two, 500.0, 0.1, steps)?, pressure);
+    /// assert_eq!(tv2p(Region::Two, 500.0, 0.1, steps - 1).unwrap_err().cause(), Cause::StepsSpent);
+    /// # Ok::<(), climboat::Refusal>(())
+    /// ```
     pub steps: u32,
     /// The bracket at the test that ended the search; for an exact end, the starting bracket.
     pub bracket: Bracket,
@@ -127,13 +138,13 @@ pub enum Cause {
     ResidualNotFinite,
     /// 7: the residuals at both ends have the same sign. This is not "no such state".
     SameSign,
-    /// 8: the steps are spent.
+    /// 8: the steps are spent. Of all refusals this alone may be another outcome under a larger limit.
     StepsSpent,
     /// 9: a property, saturation or B23 result is not finite.
     ResultNotFinite,
     /// 10: the next point lies outside the bracket.
     PointOutside,
-    /// 11: the step limit is above [`crate::LARGEST_STEP_LIMIT`], 20,000.
+    /// 11: the step limit is above [`crate::LARGEST_STEP_LIMIT`], 65,535.
     LimitTooLarge,
     /// 21: a region or property number names nothing for this call.
     NothingNamed,
@@ -170,7 +181,7 @@ const ROWS: [Row; 12] = [
     row(8, Cause::StepsSpent, true, "the steps are spent; the last point is no answer, give a larger step limit"),
     row(9, Cause::ResultNotFinite, false, "a property, saturation or B23 result is not finite, so there is no number to give; ask for another state"),
     row(10, Cause::PointOutside, true, "the next point of the search lies outside its bracket, so it cannot go on; the bracket is as far as it came, ask for the state by another pair"),
-    row(11, Cause::LimitTooLarge, false, "the step limit is above 20,000; give one from 0 to 20,000"),
+    row(11, Cause::LimitTooLarge, false, "the step limit is above 65,535; give one from 0 to 65,535"),
     row(21, Cause::NothingNamed, false, "the region or the property is not one that this call knows; name another"),
 ];
 
@@ -198,7 +209,7 @@ pub struct Refusal {
     pub number: u32,
     /// The last point for 8, else 0.
     pub value: f64,
-    /// The steps taken for 6, 8 and 10, else 0.
+    /// The steps taken for 6, 8 and 10, else 0. For 8 they are the limit; the least limit that is enough for a 6 is its steps, for a 10 one more.
     pub steps: u32,
     /// The last bracket for 6, 8 and 10, else 0 and 0, as are its residuals. For 6 a residual that is not finite is given as 0.
     pub bracket: Bracket,

@@ -50,11 +50,22 @@ pub const VERSION: &str = env!("CARGO_PKG_VERSION");
 /// What it follows: the crate that it ports, and the release whose equations these are.
 pub const FOLLOWS: &str = "seuif97 2.3.8 and IAPWS R7-97(2012)";
 
-/// The step limit that the vessels use.
+/// The step limit that the vessels use. It is not the largest: see [`LARGEST_STEP_LIMIT`].
 pub const STEP_LIMIT: u32 = 20_000;
 
 /// The largest step limit that a search takes. A larger one is refused by 11.
-pub const LARGEST_STEP_LIMIT: u32 = 20_000;
+///
+/// Up to it a larger limit never changes an answer or a refusal other than 8: the outcome is the same in every part, bit for bit. 8 alone may turn into something else: an answer, 6 or 10.
+///
+/// ```
+/// use climboat::{ts2p, Region, LARGEST_STEP_LIMIT, STEP_LIMIT};
+///
+/// let pressure = ts2p(Region::Two, 500.0, 7.2, STEP_LIMIT)?;
+/// assert_eq!(ts2p(Region::Two, 500.0, 7.2, LARGEST_STEP_LIMIT)?, pressure);
+/// assert_eq!(ts2p(Region::Two, 500.0, 7.2, LARGEST_STEP_LIMIT + 1).unwrap_err().number, 11);
+/// # Ok::<(), climboat::Refusal>(())
+/// ```
+pub const LARGEST_STEP_LIMIT: u32 = 65_535;
 
 /// A property of the named region at p and T.
 ///
@@ -98,6 +109,7 @@ pub fn b23_temperature(p: f64) -> Result<Reading, Refusal> {
 /// Searches a region for the state with this pair: the first of the pair is fixed, the second is the target.
 ///
 /// A found point may lie outside the region: [`Reading::is_inside`] says so.
+/// What a larger limit can change, [`LARGEST_STEP_LIMIT`] says; which limit is enough, [`Search::steps`].
 ///
 /// ```
 /// use climboat::{search, Cause, Pair, Region};

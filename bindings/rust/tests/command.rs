@@ -106,7 +106,9 @@ fn a_refusal_is_on_standard_output_with_status_1() {
         ("1 pv 0.000611212677444 0.001", 5, "region 1, p = 0.000611212677444 MPa, v = 0.001 m^3/kg, where T"),
         ("1 pv 0.1 0.00100015", 7, "region 1, p = 0.1 MPa, v = 0.00100015 m^3/kg, where T"),
         ("2 Th 300 1e300", 7, "region 2, T = 300.0 K, h = 1e300 kJ/kg, where p"),
-        ("1 pv 3 0.001 --limit 20001", 11, "region 1, p = 3.0 MPa, v = 0.001 m^3/kg, where T"),
+        ("1 pv 3 0.001 --limit 65536", 11, "region 1, p = 3.0 MPa, v = 0.001 m^3/kg, where T"),
+        ("1 pv NaN 0.001 --limit 4294967295", 11, "region 1, p = NaN MPa, v = 0.001 m^3/kg, where T"),
+        ("1 pv 3 0.001 --limit 4294967296", 11, "region 1, p = 3.0 MPa, v = 0.001 m^3/kg, where T"),
         ("1 Tv 3 0.001 --limit 99999999999999999999", 11, "region 1, T = 3.0 K, v = 0.001 m^3/kg, where p"),
     ];
     for (line, number, of) in refusals {
@@ -140,6 +142,32 @@ fn a_refusal_shows_the_steps_and_the_bracket_that_it_carries() {
     assert!(run("2 Tv 500 5e-324").out.ends_with(
         "\nsteps:     0\nbracket:   1e-8 to 100.0 MPa\nresiduals: 0.0 and 0.0 (relative)\n"
     ));
+}
+
+/// A search by bisection and one by Brent's search, each with the limit that is just enough for it.
+const JUST_ENOUGH: [(&str, u32); 2] = [("2 Tv 500 0.1", 27), ("2 Ts 500 7.2", 9)];
+
+#[test]
+fn one_step_fewer_than_enough_is_refused_by_8() {
+    for (line, enough) in JUST_ENOUGH {
+        let spent = run(&format!("{line} --limit {}", enough - 1));
+        assert_eq!((spent.status, spent.err.as_str()), (1, ""), "{line}");
+        assert!(spent.out.starts_with("refused by 8: "), "{}", spent.out);
+        let steps = format!("\nsteps:      {}\n", enough - 1);
+        assert!(spent.out.contains(&steps), "{}", spent.out);
+        assert_eq!(run(&format!("{line} --limit {enough}")).status, 0, "{line}");
+    }
+}
+
+#[test]
+fn a_larger_limit_leaves_every_byte_of_an_answer() {
+    for (line, enough) in JUST_ENOUGH {
+        let answer = run(line);
+        assert_eq!((answer.status, answer.err.as_str()), (0, ""), "{line}");
+        for limit in [enough, enough + 1, 1000, 20_000, 20_001, 65_535] {
+            answers(&format!("{line} --limit {limit}"), answer.out.clone());
+        }
+    }
 }
 
 /// Command lines that are wrong, and what is said of them.
@@ -300,6 +328,7 @@ fn help_and_nothing() {
         "--limit",
         "--diagram",
         "--version",
+        "0 to 65535",
         "what it is of",
         "residuals",
         "Exit status",

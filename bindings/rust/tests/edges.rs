@@ -187,25 +187,47 @@ fn reading_16_refuses_though_temperatures_exist() {
     );
 }
 
+/// The limits of the lines that `edges` has of a search.
+fn limits(name: &str) -> Vec<u32> {
+    let start = format!("{name}, limit ");
+    let lines = include_str!("../../../crates/edges/stdout").lines();
+    let limits: Vec<u32> = lines
+        .filter_map(|line| line.strip_prefix(&start)?.split_once(": ")?.0.parse().ok())
+        .collect();
+    for limit in [STEP_LIMIT, LARGEST_STEP_LIMIT, LARGEST_STEP_LIMIT + 1] {
+        assert!(limits.contains(&limit), "{name}: no line of {limit}");
+    }
+    limits
+}
+
 #[test]
 fn step_limits() {
     let v = volume(Region::One, 3.0, 300.0);
     let h = property(Region::Two, Property::Enthalpy, 30.0, 700.0)
         .unwrap()
         .value;
-    for limit in [1, 2, 20, 20_000, 20_001, u32::MAX] {
+    for limit in limits("bisection") {
         same(
             &format!("bisection, limit {limit}"),
             pv2t(Region::One, 3.0, v, limit),
         );
+    }
+    for limit in limits("Brent") {
         same(
             &format!("Brent, limit {limit}"),
             th2p(Region::Two, 700.0, h, limit),
         );
     }
+    let cold = volume(Region::One, 1.0, 273.15);
+    for limit in limits("exact end") {
+        same(
+            &format!("exact end, limit {limit}"),
+            pv2t(Region::One, 1.0, cold, limit),
+        );
+    }
     same(
-        "limit 20001 before NaN",
-        pv2t(Region::One, f64::NAN, f64::NAN, 20_001),
+        "limit 65536 before NaN",
+        pv2t(Region::One, f64::NAN, f64::NAN, 65_536),
     );
 }
 

@@ -192,16 +192,3 @@ fn a_refusal_is_an_error_like_others() {
     );
     assert_eq!(shown, expected);
 }
-
-#[test]
-fn more_patience_gives_the_same_answer() {
-    let found = pv2t(Region::One, 3.0, 0.001, STEP_LIMIT).unwrap();
-    let steps = found.search.unwrap().steps;
-    assert_eq!(pv2t(Region::One, 3.0, 0.001, steps).unwrap(), found);
-    assert_eq!(
-        pv2t(Region::One, 3.0, 0.001, steps - 1)
-            .unwrap_err()
-            .cause(),
-        Cause::StepsSpent
-    );
-}

@@ -190,30 +190,47 @@ fn bisection(name: &[u8], steps: u32) {
     by_pv(name, PvRegion::One, 3.0, pT2v_reg1(3.0, 300.0), steps);
 }
 
+fn exact_end(name: &[u8], steps: u32) {
+    by_pv(name, PvRegion::One, 1.0, pT2v_reg1(1.0, 273.15), steps);
+}
+
 fn brent(name: &[u8], steps: u32) {
     by_Th(name, Region::Two, 700.0, pT2h_reg2(30.0, 700.0), steps);
 }
 
-// The step limits next to 0 and 20,000.
+// The step limits next to 0, to the vessels' 20,000 and to the largest one, 65,535; and those next to the least that is enough, where 8 turns into an answer that stays: the steps of a bisection, one more
+// than the steps of Brent's search, and any for an exact end.
 pub fn step_limits() {
     bisection(b"bisection, limit 1", 1);
     bisection(b"bisection, limit 2", 2);
     bisection(b"bisection, limit 20", 20);
+    bisection(b"bisection, limit 21", 21);
+    bisection(b"bisection, limit 22", 22);
     bisection(b"bisection, limit 20000", 20000);
     bisection(b"bisection, limit 20001", 20001);
+    bisection(b"bisection, limit 65535", 65535);
+    bisection(b"bisection, limit 65536", 65536);
     bisection(b"bisection, limit 4294967295", 4294967295);
     brent(b"Brent, limit 1", 1);
     brent(b"Brent, limit 2", 2);
+    brent(b"Brent, limit 10", 10);
+    brent(b"Brent, limit 11", 11);
     brent(b"Brent, limit 20", 20);
     brent(b"Brent, limit 20000", 20000);
     brent(b"Brent, limit 20001", 20001);
+    brent(b"Brent, limit 65535", 65535);
+    brent(b"Brent, limit 65536", 65536);
     brent(b"Brent, limit 4294967295", 4294967295);
+    exact_end(b"exact end, limit 0", 0);
+    exact_end(b"exact end, limit 20000", 20000);
+    exact_end(b"exact end, limit 65535", 65535);
+    exact_end(b"exact end, limit 65536", 65536);
     by_pv(
-        b"limit 20001 before NaN",
+        b"limit 65536 before NaN",
         PvRegion::One,
         0.0 / 0.0,
         0.0 / 0.0,
-        20001,
+        65536,
     );
 }
 

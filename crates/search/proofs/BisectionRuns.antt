@@ -5,6 +5,7 @@ use mathlib.Core.Logic.{_⊎_, inl, inr}
 use mathlib.Core.Bool.{Bool, true, false, cond, _||_, true≢false}
 use mathlib.Core.List.{map-id}
 use Prim.Native.Nat.{ℕ, _+_, _≤_}
+use native.Mathlib.Omega.{arith}
 use lib.Dec.{T}
 use lib.Ieee.{Float, nan, inf, fin, mul, lt, isNan}
 use lib.Ieee.Scale.{finite}
@@ -17,12 +18,13 @@ use Rattle.float.specs.Sign.{nought, magnitude, sameSign}
 use Rattle.search.specs.Run.{Go, stop, go, statesFrom, last, Every}
 use Rattle.search.specs.Bisection.{small, middleOf, outside, step, widthOf, narrow, turn, turnGo, next, spent, bisection, bisectionBrackets}
 use Rattle.search.specs.Demand.{Opposite, Start, Within, Nested, reported, RunOwes, Part}
+use Rattle.search.specs.Patience.{Spent, stepsOf, enough, Counts}
 use Rattle.search.specs.declared.bracket.Bracket.{Bracket}
 use Rattle.search.specs.declared.bracket.Outcome.{Outcome}
 use Rattle.search.specs.declared.bracket.Outcome.the-variants.{SmallResidual, Narrow, Refused}
 use Rattle.search.specs.declared.bisection.Width.{Width}
 use Rattle.search.specs.declared.bisection.Turn.the-variants.{Done, Next}
-use Rattle.search.proofs.Runs.{Hands, keeps, reports-last, reports-each}
+use Rattle.search.proofs.Runs.{Hands, keeps, reports-last, reports-each, counts}
 use Rattle.search.proofs.Narrow.{narrow-distance, narrow-part}
 use Rattle.search.proofs.Residuals.{Nonzero, of-true, not-small, sign-rule}
 use Rattle.search.proofs.Places.{Place, Held, widened, own, within, signed, started, lies, enclosed, nested}
@@ -128,6 +130,21 @@ module _ (width : Bracket → Float) (f : Float → Float) where
   unfolding bisection bisectionBrackets
   bisection-each s limit =
       subst (Every _) (map-id (statesFrom (next width f) limit s 0)) (reports-each (next width f) spent (λ b. b) reported (λ b. Prim.Unit {0}) turn-reports (λ b n. unfold spent in refl) limit s 0 tt)
+
+  -- ---- each stops in the step that it tells, but for 10, which is told before the next
+  turn-counts : (b : Bracket) (n : ℕ) → Hands (λ o. enough 0 o ≡ n + 1) (λ c. Prim.Unit {0}) (next width f b n)
+  turn-counts b n = by (rule-of b n)
+    where
+      by : {t : Go Outcome Bracket} → Rule b n t → Hands (λ o. enough 0 o ≡ n + 1) (λ c. Prim.Unit {0}) t
+      by outside-now = refl
+      by spoilt-now = omega arith
+      by (small-now p q) = omega arith
+      by (narrow-now p q) = omega arith
+      by (next-now i z) = tt
+
+  pub bisection-counts : (s : Bracket) → Counts 0 (bisection width f s)
+  unfolding bisection
+  bisection-counts s = counts (next width f) spent (enough 0) stepsOf Spent turn-counts (λ b n. unfold spent in (refl, refl)) s
 
   -- ---- what an outcome owes
   module _ (s : Bracket) (d : (b : Bracket) → T (double (b .x1)) → T (double (b .x2)) → T (double (width b))) (g : Start f s) where

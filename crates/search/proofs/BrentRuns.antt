@@ -25,6 +25,7 @@ use Rattle.search.specs.Run.{statesFrom, last, Every}
 use Rattle.search.specs.Bracket.{ordered, strictlyBetween}
 use Rattle.search.specs.Brent.{bracketOf, bySign, start, sorted, tolerance, halfWidth, halved, lengths, nextPoint, withLengths, aimSorted, aim, step, turnGo, aimed, next, spent, zbrent, zbrentBrackets}
 use Rattle.search.specs.Demand.{Opposite, Zero, Start, Within, Signed, Nested, reported, Lies, Enclosed, Owes}
+use Rattle.search.specs.Patience.{Spent, stepsOf, enough, Counts}
 use Rattle.search.specs.declared.bracket.Bracket.{Bracket}
 use Rattle.search.specs.declared.method.Method.the-variants.{ByBrent}
 use Rattle.search.specs.declared.brent.Brent.{Brent}
@@ -34,7 +35,7 @@ use Rattle.search.specs.declared.bracket.Outcome.the-variants.{SmallResi
 use Rattle.search.specs.declared.brent.Aim.{Aim}
 use Rattle.search.specs.declared.brent.Aim.the-variants.{Stop, At}
 use Rattle.search.specs.declared.brent.BrentTurn.the-variants.{Ended, On}
-use Rattle.search.proofs.Runs.{Hands, handed, keeps, reports-last, reports-each}
+use Rattle.search.proofs.Runs.{Hands, handed, keeps, reports-last, reports-each, counts}
 use Rattle.search.proofs.Magnitude.{magnitude-le, bounded-finite}
 use Rattle.search.proofs.Residuals.{Nonzero, of-true, three-ways, zero-sign, not-less, opposite-sym, sign-rule, same}
 use Rattle.search.proofs.Tolerance.{tolerance-double, tolerance-two}
@@ -123,6 +124,29 @@ rule s n = pick (eq (s .fb) nought) refl (le (magnitude (halfWidth s)) (toleranc
     pick false z false p true q v r = point-now z (lengths s) x (next-fits s (lengths s)) q
     pick false z false p false q true r = point-now z (halved s) m (middle-fits (s .b) (s .c)) r
     pick false z false p false q false r = none-now
+
+-- ---- the limit is tested before an aim: an outcome of the aim has the steps before it, and 6 the one that failed
+module _ (f : Float → Float) where
+  turn-counts : (s : Brent) (n : ℕ) → Hands (λ o. enough 1 o ≡ n + 1) (λ c. Prim.Unit {0}) (next f s n)
+  unfolding next aim
+  turn-counts s n = by (rule (sorted s) n)
+    where
+      failed : (t : Brent) (x : Float) → Hands (λ o. enough 1 o ≡ n + 1) (λ c. Prim.Unit {0}) (turnGo (step t x (f x) (n + 1)))
+      failed t x = unfold step in pick _ (finite (f x))
+        where
+          pick : (c : Brent) (b : Bool) → Hands (λ o. enough 1 o ≡ n + 1) (λ c. Prim.Unit {0}) (turnGo (cond b (On c) (Ended (Refused 6 nought (n + 1) (bracketOf t)))))
+          pick c true = tt
+          pick c false = omega arith
+
+      by : {t : Aim} → Rule (sorted s) n t → Hands (λ o. enough 1 o ≡ n + 1) (λ c. Prim.Unit {0}) (aimed f n t)
+      by (zero-now z) = refl
+      by (narrow-now z k) = refl
+      by (point-now z l x t k) = failed (withLengths (sorted s) l) x
+      by none-now = refl
+
+  pub zbrent-counts : (s : Bracket) → Counts 1 (zbrent f s)
+  unfolding zbrent
+  zbrent-counts s = counts (next f) spent (enough 1) stepsOf Spent turn-counts (λ u n. unfold spent in (refl, refl)) (start s)
 
 module _ (f : Float → Float) (w : Bracket) where
   -- the bracket of a state: it holds the state's points, and its residuals are opposite or one is zero

@@ -68,13 +68,6 @@ pub record Told (m : Method) (f : Float → Float) (s : Bracket) (limit : ℕ) :
   pub at-last : reported (run m f s limit) ≡ last s (brackets m f s limit)
   pub each : Every (λ b. (k : ℕ) × (k ≤ limit) × (reported (run m f s k) ≡ b)) (brackets m f s limit)
 
--- ---- an outcome that a larger limit may change: 8
-abbrev pub Spent : Outcome → Type 0
-Spent (ExactEnd v b) = ⊥
-Spent (SmallResidual v n b) = ⊥
-Spent (Narrow v n b) = ⊥
-Spent (Refused number v n b) = number ≡ 8
-
 -- ---- what an answer owes
 -- v lies in the bracket b, and b in the starting bracket s
 pub record Lies (s b : Bracket) (v : Float) : Type 0 where

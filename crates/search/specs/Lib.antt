@@ -5,3 +5,4 @@ pub mod Bisection
 pub mod Brent
 pub mod Search
 pub mod Demand
+pub mod Patience

@@ -4,3 +4,4 @@ pub mod Readings
 pub mod OneOutcome
 pub mod EveryCall
 pub mod Residuals
+pub mod Patience

@@ -8,3 +8,4 @@ pub mod Demand
 pub mod Readings
 pub mod Residuals
 pub mod EveryCall
+pub mod Patience

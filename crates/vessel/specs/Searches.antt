@@ -27,7 +27,7 @@ use Rattle.vessel.specs.declared.pair.PvRegion.the-variants.{One as One'
 
 -- the largest step limit
 abbrev pub largestLimit : ℕ
-largestLimit = 20000
+largestLimit = 65535
 
 -- v ≤ 0
 unfoldable pub volumeRefused : Question → Bool

@@ -23,7 +23,7 @@ use search::bracket::Outcome;
 use search::bracket::refused;
 
 // The largest step limit; a larger one is refused.
-pub const LARGEST_STEP_LIMIT: u32 = 20000;
+pub const LARGEST_STEP_LIMIT: u32 = 65535;
 
 // The step limit that the vessels use.
 pub const STEP_LIMIT: u32 = 20000;
