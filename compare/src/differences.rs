@@ -36,7 +36,7 @@ fn differ(search: &Search, seed: u64) -> bool {
         search.meet(&Input { fixed, target: search.at(fixed, x), of: Some(x) }, true, &mut kinds, &mut elsewhere);
     }
     let states: u64 = kinds.values().map(|kind| kind.met).sum();
-    println!("{}: {states} states against the original; an outcome that is another one under the limit {LARGEST_LIMIT} is unexplained", search.name);
+    println!("{}: {states} states against the original, each also under the limits {LARGEST_LIMIT} and {}", search.name, LARGEST_LIMIT + 1);
     for (name, kind) in &kinds {
         println!("  {name}: {}", kind.told(name == SAME));
     }
@@ -152,7 +152,7 @@ impl Search {
         }
     }
 
-    /// What an outcome and the original's answer, none where it panics, are to each other; unexplained if the outcome does not say what it is of, or is another one under the largest limit.
+    /// What an outcome and the original's answer, none where it panics, are to each other; unexplained if the outcome does not say what it is of, is another one under the largest limit, or is searched under a larger one.
     fn kind(&self, input: &Input, ours: Record, answer: Option<f64>) -> String {
         let (low, high) = (self.ends)(input.fixed);
         let from = if low == -9999.0 || high == -9999.0 { " with -9999 as an end" } else { "" };

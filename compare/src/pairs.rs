@@ -3,6 +3,7 @@
 use crate::climboat::{Pair, Record, LARGEST_LIMIT};
 use crate::draw::Draw;
 use crate::equations::{most, region_1, region_2};
+use crate::patience::Outcome;
 use crate::question::Question;
 use copy::r1::region1_pair_ext as copy1;
 use copy::r2::region2_pair_ext as copy2;
@@ -81,9 +82,10 @@ impl Search {
         self.question(fixed, target, limit).climboat()
     }
 
-    /// Whether an outcome under the original's limit is the same record under the largest.
+    /// Whether an outcome under the original's limit is the same record under the largest, and a larger limit is refused.
     pub fn stays(&self, fixed: f64, target: f64, ours: &Record) -> bool {
-        self.ours(fixed, target, LARGEST_LIMIT).same(ours)
+        let too_large = Outcome::of(self.question(fixed, target, LARGEST_LIMIT + 1));
+        self.ours(fixed, target, LARGEST_LIMIT).same(ours) && too_large.stands()
     }
 
     /// (p,T) of the input that is fixed and a point x of the search.

@@ -34,7 +34,7 @@ pub fn command(words: &[&str]) -> bool {
     match words {
         [] => print!("{table}"),
         ["--check"] => {
-            println!("vacuum: {} states from 1.0e-8 to 100 MPa searched back, {} not within what their reason says or another record under the limit {LARGEST_LIMIT}", states().count(), faults.len());
+            println!("vacuum: {} states from 1.0e-8 to 100 MPa searched back, {} not within what their reason says, another record under the limit {LARGEST_LIMIT}, or not refused under {}", states().count(), faults.len(), LARGEST_LIMIT + 1);
             return check(&table) & faults.is_empty();
         }
         _ => {
@@ -122,7 +122,7 @@ impl State {
         (value - self.p).abs() / self.p
     }
 
-    /// What is wrong with the two answers, if anything: before must be the crate's own answer, after must hold what its reason says, say what it is of, and stay the same under the largest limit.
+    /// What is wrong with the two answers, if anything: before must be the crate's own answer, after must hold what its reason says, say what it is of, stay the same under the largest limit, and be refused under a larger one.
     fn fault(&self, search: &Search) -> Option<String> {
         let Record { number, reason, value, lower, upper, .. } = self.after;
         let at = |x: f64| search.residual(self.t, self.v, x);

@@ -12,7 +12,7 @@ const DOUBLES: [f64; 28] = [
     0.001, 0.00103, 0.0012, 0.1, 115.0, 1650.0, 2500.0, 3000.0, 0.39, 7.2, 8.5,
     f64::NAN, f64::NEG_INFINITY, -0.0, 5.0e-324,
 ];
-const LIMITS: [u32; 4] = [0, 3, STEP_LIMIT, LARGEST_STEP_LIMIT + 1];
+const LIMITS: [u32; 5] = [0, 3, STEP_LIMIT, LARGEST_STEP_LIMIT, LARGEST_STEP_LIMIT + 1];
 
 #[test]
 fn every_answer_and_every_refusal_is_of_its_question() {

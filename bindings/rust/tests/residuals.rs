@@ -12,8 +12,8 @@ const STATES: [(Region, f64, f64); 8] = [
     (Region::Two, 1.0, 700.0),
     (Region::Two, 30.0, 800.0),
 ];
-/// Limits that end a search early, and one that lets it answer.
-const LIMITS: [u32; 5] = [0, 1, 5, 15, STEP_LIMIT];
+/// Limits that end a search early, and two that let it answer.
+const LIMITS: [u32; 6] = [0, 1, 5, 15, STEP_LIMIT, LARGEST_STEP_LIMIT];
 
 /// The property that a pair has as its target.
 fn target(pair: Pair) -> Property {

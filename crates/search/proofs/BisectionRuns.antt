@@ -131,15 +131,18 @@ module _ (width : Bracket → Float) (f : Float → Float) where
   bisection-each s limit =
       subst (Every _) (map-id (statesFrom (next width f) limit s 0)) (reports-each (next width f) spent (λ b. b) reported (λ b. Prim.Unit {0}) turn-reports (λ b n. unfold spent in refl) limit s 0 tt)
 
-  -- ---- each stops in the step that it tells, but for 10, which is told before the next
-  turn-counts : (b : Bracket) (n : ℕ) → Hands (λ o. enough 0 o ≡ n + 1) (λ c. Prim.Unit {0}) (next width f b n)
+  -- ---- each stops in the step that it tells, but for 10, which is told before the next; none is 8
+  abbrev Stops : ℕ → Outcome → Type 0
+  Stops n o = (enough 0 o ≡ n + 1) × (Spent o → ⊥)
+
+  turn-counts : (b : Bracket) (n : ℕ) → Hands (Stops n) (λ c. Prim.Unit {0}) (next width f b n)
   turn-counts b n = by (rule-of b n)
     where
-      by : {t : Go Outcome Bracket} → Rule b n t → Hands (λ o. enough 0 o ≡ n + 1) (λ c. Prim.Unit {0}) t
-      by outside-now = refl
-      by spoilt-now = omega arith
-      by (small-now p q) = omega arith
-      by (narrow-now p q) = omega arith
+      by : {t : Go Outcome Bracket} → Rule b n t → Hands (Stops n) (λ c. Prim.Unit {0}) t
+      by outside-now = (refl, λ e. omega (arith, e))
+      by spoilt-now = (omega arith, λ e. omega (arith, e))
+      by (small-now p q) = (omega arith, λ e. e)
+      by (narrow-now p q) = (omega arith, λ e. e)
       by (next-now i z) = tt
 
   pub bisection-counts : (s : Bracket) → Counts 0 (bisection width f s)

@@ -125,24 +125,27 @@ rule s n = pick (eq (s .fb) nought) refl (le (magnitude (halfWidth s)) (toleranc
     pick false z false p false q true r = point-now z (halved s) m (middle-fits (s .b) (s .c)) r
     pick false z false p false q false r = none-now
 
--- ---- the limit is tested before an aim: an outcome of the aim has the steps before it, and 6 the one that failed
+-- ---- the limit is tested before an aim: an outcome of the aim has the steps before it, and 6 the one that failed; none is 8
 module _ (f : Float → Float) where
-  turn-counts : (s : Brent) (n : ℕ) → Hands (λ o. enough 1 o ≡ n + 1) (λ c. Prim.Unit {0}) (next f s n)
+  abbrev Stops : ℕ → Outcome → Type 0
+  Stops n o = (enough 1 o ≡ n + 1) × (Spent o → ⊥)
+
+  turn-counts : (s : Brent) (n : ℕ) → Hands (Stops n) (λ c. Prim.Unit {0}) (next f s n)
   unfolding next aim
   turn-counts s n = by (rule (sorted s) n)
     where
-      failed : (t : Brent) (x : Float) → Hands (λ o. enough 1 o ≡ n + 1) (λ c. Prim.Unit {0}) (turnGo (step t x (f x) (n + 1)))
+      failed : (t : Brent) (x : Float) → Hands (Stops n) (λ c. Prim.Unit {0}) (turnGo (step t x (f x) (n + 1)))
       failed t x = unfold step in pick _ (finite (f x))
         where
-          pick : (c : Brent) (b : Bool) → Hands (λ o. enough 1 o ≡ n + 1) (λ c. Prim.Unit {0}) (turnGo (cond b (On c) (Ended (Refused 6 nought (n + 1) (bracketOf t)))))
+          pick : (c : Brent) (b : Bool) → Hands (Stops n) (λ c. Prim.Unit {0}) (turnGo (cond b (On c) (Ended (Refused 6 nought (n + 1) (bracketOf t)))))
           pick c true = tt
-          pick c false = omega arith
+          pick c false = (omega arith, λ e. omega (arith, e))
 
-      by : {t : Aim} → Rule (sorted s) n t → Hands (λ o. enough 1 o ≡ n + 1) (λ c. Prim.Unit {0}) (aimed f n t)
-      by (zero-now z) = refl
-      by (narrow-now z k) = refl
+      by : {t : Aim} → Rule (sorted s) n t → Hands (Stops n) (λ c. Prim.Unit {0}) (aimed f n t)
+      by (zero-now z) = (refl, λ e. e)
+      by (narrow-now z k) = (refl, λ e. e)
       by (point-now z l x t k) = failed (withLengths (sorted s) l) x
-      by none-now = refl
+      by none-now = (refl, λ e. omega (arith, e))
 
   pub zbrent-counts : (s : Bracket) → Counts 1 (zbrent f s)
   unfolding zbrent

@@ -1,11 +1,12 @@
 -- Any run: how it goes on, for a loop that counts up to its limit; what its turns keep; the states it goes through, and that outcomes report them; and that the limit decides whether there is an outcome,
 -- and not which. By induction on the steps left. Assumes nothing.
 use mathlib.Core.Path.{_≡_, refl, sym, ap, _∙_, subst}
+use mathlib.Core.Logic.{_⊎_, inl, inr}
 use mathlib.Core.List.{List, [], _∷_, map}
 use Prim.Native.Nat.{ℕ, zero, suc, _+_, _-_, _≤_, _<_}
 use native.Mathlib.Omega.{arith}
 use Rattle.search.specs.Run.{Go, stop, go, runFrom, statesFrom, last, Every}
-use Rattle.search.specs.Patience.{Counted}
+use Rattle.search.specs.Patience.{CountedUnder}
 
 left : (limit n : ℕ) → n < limit → limit - n ≡ suc (limit - (n + 1))
 left limit n h = omega arith
@@ -114,56 +115,66 @@ module _ {O S B : Type 0} (next : S → ℕ → Go O S) (spent : S → ℕ → O
           subst Views (sym (states-go next k s n c e))
           (at-once (suc k) s n, every (λ b w. (suc (w .0), both (w .0) k (w .1), ap report (from-go next spent (w .0) s n c e) ∙ w .2)) (map view (statesFrom next k c (n + 1))) (ih c h))
 
--- ---- patience: where a turn that stops after n steps gives an outcome whose least limit is n + 1, and a run that is spent after n steps tells them
+-- ---- patience: where a turn that stops after n steps gives an outcome that is not 8 and whose least limit is n + 1, and a run that is spent after n steps is 8 and tells them
 module _ {O S : Type 0} (next : S → ℕ → Go O S) (spent : S → ℕ → O) (least steps : O → ℕ) (Eight : O → Type 0)
-    (turn : (s : S) (n : ℕ) → Hands (λ o. least o ≡ n + 1) (λ c. Prim.Unit {0}) (next s n)) (ends : (s : S) (n : ℕ) → Eight (spent s n) × (steps (spent s n) ≡ n)) where
+    (turn : (s : S) (n : ℕ) → Hands (λ o. (least o ≡ n + 1) × (Eight o → ⊥)) (λ c. Prim.Unit {0}) (next s n)) (ends : (s : S) (n : ℕ) → Eight (spent s n) × (steps (spent s n) ≡ n)) where
   abbrev ran : ℕ → S → ℕ → O
   ran k s n = runFrom next spent k s n
 
-  -- o is what is given from a state after n steps, with k left
+  -- from a state after n steps, with k left, all of them are taken and it is 8
+  abbrev AllTaken : ℕ → S → ℕ → Type 0
+  AllTaken k s n = Eight (ran k s n) × (steps (ran k s n) ≡ n + k)
+
+  -- or o is given
   record Found (o : O) (k : ℕ) (s : S) (n : ℕ) : Type 0 where
+    settled : Eight o → ⊥
     later : n < least o
     held : least o ≤ n + k
     same : (j : ℕ) → least o ≤ n + j → ran j s n ≡ o
-    smaller : (j : ℕ) → n + j < least o → Eight (ran j s n) × (steps (ran j s n) ≡ n + j)
+    smaller : (j : ℕ) → n + j < least o → AllTaken j s n
 
-  none-left : (s : S) (n : ℕ) → Eight (ran 0 s n) × (steps (ran 0 s n) ≡ n + 0)
+  none-left : (s : S) (n : ℕ) → AllTaken 0 s n
   none-left s n = unfold runFrom in (ends s n .0, ends s n .1 ∙ omega arith)
 
-  stopped : (k : ℕ) (s : S) (n : ℕ) (o : O) → next s n ≡ stop o → least o ≡ n + 1 → Found o (suc k) s n
-  stopped k s n o e l = record { later = omega (arith, l); held = omega (arith, l); same = same; smaller = smaller }
+  one-more : (k : ℕ) (s : S) (n : ℕ) (c : S) → next s n ≡ go c → AllTaken k c (n + 1) → AllTaken (suc k) s n
+  one-more k s n c e x = rw (from-go next spent k s n c e) (x .0, x .1 ∙ omega arith)
+
+  stopped : (k : ℕ) (s : S) (n : ℕ) (o : O) → next s n ≡ stop o → (least o ≡ n + 1) × (Eight o → ⊥) → Found o (suc k) s n
+  stopped k s n o e (l, unlike) = record { settled = unlike; later = omega (arith, l); held = omega (arith, l); same = same; smaller = smaller }
     where
       same : (j : ℕ) → least o ≤ n + j → ran j s n ≡ o
       same zero h = absurd (omega (arith, l, h))
       same (suc j) h = from-stop next spent j s n o e
 
-      smaller : (j : ℕ) → n + j < least o → Eight (ran j s n) × (steps (ran j s n) ≡ n + j)
+      smaller : (j : ℕ) → n + j < least o → AllTaken j s n
       smaller zero h = none-left s n
       smaller (suc j) h = absurd (omega (arith, l, h))
 
   gone : (k : ℕ) (s : S) (n : ℕ) (c : S) (o : O) → next s n ≡ go c → Found o k c (n + 1) → Found o (suc k) s n
-  gone k s n c o e r = record { later = omega (arith, r .later); held = omega (arith, r .held); same = same; smaller = smaller }
+  gone k s n c o e r = record { settled = r .settled; later = omega (arith, r .later); held = omega (arith, r .held); same = same; smaller = smaller }
     where
       same : (j : ℕ) → least o ≤ n + j → ran j s n ≡ o
       same zero h = absurd (omega (arith, r .later, h))
       same (suc j) h = from-go next spent j s n c e ∙ r .same j (omega (arith, h))
 
-      smaller : (j : ℕ) → n + j < least o → Eight (ran j s n) × (steps (ran j s n) ≡ n + j)
+      smaller : (j : ℕ) → n + j < least o → AllTaken j s n
       smaller zero h = none-left s n
-      smaller (suc j) h = let x = r .smaller j (omega (arith, h)) in rw (from-go next spent j s n c e) (x .0, x .1 ∙ omega arith)
+      smaller (suc j) h = one-more j s n c e (r .smaller j (omega (arith, h)))
 
-  found : (k : ℕ) (s : S) (n : ℕ) → (Eight (ran k s n) → ⊥) → Found (ran k s n) k s n
-  found zero s n h = absurd (h (none-left s n .0))
-  found (suc k) s n h = by (λ c. found k c (n + 1)) (next s n) refl (turn s n)
+  found : (k : ℕ) (s : S) (n : ℕ) → AllTaken k s n ⊎ Found (ran k s n) k s n
+  found zero s n = inl (none-left s n)
+  found (suc k) s n = by (λ c. found k c (n + 1)) (next s n) refl (turn s n)
     where
-      by : ((c : S) → (Eight (ran k c (n + 1)) → ⊥) → Found (ran k c (n + 1)) k c (n + 1)) → (t : Go O S) → next s n ≡ t → Hands (λ o. least o ≡ n + 1) (λ c. Prim.Unit {0}) t
-          → Found (ran (suc k) s n) (suc k) s n
-      by ih (stop o) e l = subst (λ (x : O). Found x (suc k) s n) (sym (from-stop next spent k s n o e)) (stopped k s n o e l)
-      by ih (go c) e l =
-          let to = sym (from-go next spent k s n c e) in
-          subst (λ (x : O). Found x (suc k) s n) to (gone k s n c (ran k c (n + 1)) e (ih c (λ x. h (subst Eight to x))))
+      by : ((c : S) → AllTaken k c (n + 1) ⊎ Found (ran k c (n + 1)) k c (n + 1)) → (t : Go O S) → next s n ≡ t → Hands (λ o. (least o ≡ n + 1) × (Eight o → ⊥)) (λ c. Prim.Unit {0}) t
+          → AllTaken (suc k) s n ⊎ Found (ran (suc k) s n) (suc k) s n
+      by ih (stop o) e l = inr (subst (λ (x : O). Found x (suc k) s n) (sym (from-stop next spent k s n o e)) (stopped k s n o e l))
+      by ih (go c) e l = elim (ih c) [
+        | inl x ↦ inl (one-more k s n c e x)
+        | inr r ↦ inr (subst (λ (x : O). Found x (suc k) s n) (sym (from-go next spent k s n c e)) (gone k s n c (ran k c (n + 1)) e r))
+      ]
 
-  pub counts : (s : S) (limit : ℕ) → (Eight (ran limit s 0) → ⊥) → Counted (λ k. Prim.Unit {0}) least steps Eight (λ k. ran k s 0) limit
-  counts s limit h =
-      let r = found limit s 0 h in
-      record { held = omega (arith, r .held); same = λ k l u. r .same k (omega (arith, l)); smaller = λ k l. let x = r .smaller k (omega (arith, l)) in (x .0, x .1 ∙ omega arith) }
+  pub counts : (s : S) → CountedUnder (λ k. Prim.Unit {0}) least steps Eight (λ k. ran k s 0)
+  counts s limit u = elim (found limit s 0) [ inl x ↦ inl (told limit x) | inr r ↦ inr (record { settled = r .settled; held = omega (arith, r .held); same = λ k l a. r .same k (omega (arith, l)); smaller = λ k l. told k (r .smaller k (omega (arith, l))) }) ]
+    where
+      told : (k : ℕ) → AllTaken k s 0 → Eight (ran k s 0) × (steps (ran k s 0) ≡ k)
+      told k x = (x .0, x .1 ∙ omega arith)

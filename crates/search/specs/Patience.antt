@@ -2,6 +2,7 @@
 -- limit. Definitions only.
 use Prim.Native.Nat.{ℕ, _+_, _≤_, _<_}
 use mathlib.Core.Path.{_≡_}
+use mathlib.Core.Logic.{_⊎_}
 use mathlib.Core.Bool.{cond}
 use lib.Dec.{eqb}
 use Rattle.search.specs.declared.bracket.Outcome.{Outcome}
@@ -36,12 +37,17 @@ enough more (SmallResidual v n b) = n + more
 enough more (Narrow v n b) = n + more
 enough more (Refused number v n b) = n + cond (eqb number 10) 1 0
 
--- ---- what was given under one limit: the same under every allowed limit that is enough for it, and under every smaller one 8, after as many steps as that allows
+-- ---- what was given under one limit and is not 8: the same under every allowed limit that is enough for it, and under every smaller one 8, after as many steps as that allows
 pub record Counted {O : Type 0} (Allowed : ℕ → Type 0) (least steps : O → ℕ) (Eight : O → Type 0) (given : ℕ → O) (limit : ℕ) : Type 0 where
+  pub settled : Eight (given limit) → ⊥
   pub held : least (given limit) ≤ limit
   pub same : (k : ℕ) → least (given limit) ≤ k → Allowed k → given k ≡ given limit
   pub smaller : (k : ℕ) → k < least (given limit) → Eight (given k) × (steps (given k) ≡ k)
 
+-- under each allowed limit: 8, after as many steps as it allows, or what is counted
+abbrev pub CountedUnder : {O : Type 0} → (ℕ → Type 0) → (O → ℕ) → (O → ℕ) → (O → Type 0) → (ℕ → O) → Type 0
+CountedUnder Allowed least steps Eight given = (limit : ℕ) → Allowed limit → (Eight (given limit) × (steps (given limit) ≡ limit)) ⊎ Counted Allowed least steps Eight given limit
+
 -- of a search under any limits, with what its answers take beyond their steps
 abbrev pub Counts : ℕ → (ℕ → Outcome) → Type 0
-Counts more given = (limit : ℕ) → (Spent (given limit) → ⊥) → Counted (λ k. Prim.Unit {0}) (enough more) stepsOf Spent given limit
+Counts more given = CountedUnder (λ k. Prim.Unit {0}) (enough more) stepsOf Spent given

@@ -2,10 +2,12 @@
 -- behind that of 11 read no limit and take no step, and what follows them is a search between two ends, whose steps count. Assumes nothing.
 use Prim.Native.Nat.{ℕ, _+_, _≤_, _<_}
 use native.Mathlib.Nat.{le-of-lt, le-trans}
+use native.Mathlib.Omega.{arith}
 use mathlib.Core.Path.{_≡_, refl, sym, ap, _∙_, subst}
+use mathlib.Core.Logic.{inl, inr}
 use mathlib.Core.Bool.{Bool, true, false, cond}
 use mathlib.Core.List.{List}
-use lib.Dec.{leb, le→leb, eqb}
+use lib.Dec.{leb, le→leb}
 use lib.ListN.{take, drop}
 use lib.Ieee.{Float}
 use lib.Ieee.Bits.{is-true}
@@ -45,13 +47,20 @@ module _ (q : Question) where
   enough-told more (Narrow x n b) = refl
   enough-told more (Refused k x n b) = refl
 
-  -- 8 is told as 8
+  -- 8 is told as 8, and nothing else is
   spent-told : (o : Outcome) → outcomes.Spent o → Spent (told o)
   unfolding answered
   spent-told (ExactEnd x b) h = absurd h
   spent-told (SmallResidual x n b) h = absurd h
   spent-told (Narrow x n b) h = absurd h
   spent-told (Refused k x n b) h = h
+
+  told-spent : (o : Outcome) → Spent (told o) → outcomes.Spent o
+  unfolding answered
+  told-spent (ExactEnd x b) h = omega (arith, h)
+  told-spent (SmallResidual x n b) h = omega (arith, h)
+  told-spent (Narrow x n b) h = omega (arith, h)
+  told-spent (Refused k x n b) h = h
 
   steps-told : (o : Outcome) → columns (told o) .steps ≡ outcomes.stepsOf o
   unfolding answered
@@ -60,7 +69,7 @@ module _ (q : Question) where
   steps-told (Narrow x n b) = refl
   steps-told (Refused k x n b) = refl
 
-  -- ---- under an allowed limit the row of 11 does not hold; the others before the search read no limit
+  -- ---- under an allowed limit the row of 11 does not hold; the others before the search read no limit,
   abbrev others : List (Row Outcome)
   others = drop 1 (take 6 (checks q 0))
 
@@ -81,38 +90,46 @@ module _ (q : Question) where
   unfolding searchOf
   searched k a = ap told (allowed k a)
 
-  -- and take no step
-  out-of-range : (range : Range) → outcomes.enough more (refused (numberOf range)) ≡ 0
+  -- take no step, and are not 8
+  abbrev NoStep : ℕ → Type 0
+  NoStep number = (outcomes.enough more (refused number) ≡ 0) × (number ≡ 8 → ⊥)
+
+  out-of-range : (range : Range) → NoStep (numberOf range)
   unfolding numberOf
   out-of-range range = pick (ofPressures range)
     where
-      pick : (b : Bool) → 0 + cond (eqb (cond b 3 2) 10) 1 0 ≡ 0
-      pick true = refl
-      pick false = refl
+      pick : (b : Bool) → NoStep (cond b 3 2)
+      pick true = (refl, λ e. omega (arith, e))
+      pick false = (refl, λ e. omega (arith, e))
 
   behind-counts : outcomes.Counts more behind
   behind-counts =
-      decided-counts more others searching (refl, (out-of-range (rowOf q .range), (refl, (refl, (refl, tt)))))
+      decided-counts more others searching
+      ((refl, λ e. omega (arith, e)), (out-of-range (rowOf q .range), ((refl, λ e. omega (arith, e)), ((refl, λ e. omega (arith, e)), ((refl, λ e. omega (arith, e)), tt)))))
       (between-counts (rowOf q .method) (residual q) (place (lowerEnd q)) (place (upperEnd q)))
 
   -- ---- the steps are a promise
-  pub counts : Counts more (searchOf q)
-  counts limit a h =
+  all-taken : (k : ℕ) → Allowed k → outcomes.Spent (behind k) × (outcomes.stepsOf (behind k) ≡ k) → Spent (searchOf q k) × (columns (searchOf q k) .steps ≡ k)
+  all-taken k a x = (subst Spent (sym (searched k a)) (spent-told (behind k) (x .0)), ap (λ (w : Answer). columns w .steps) (searched k a) ∙ steps-told (behind k) ∙ x .1)
+
+  counted : (limit : ℕ) → Allowed limit → outcomes.Counted (λ k. Prim.Unit {0}) (outcomes.enough more) outcomes.stepsOf outcomes.Spent behind limit
+      → outcomes.Counted Allowed (enough more) (λ w. columns w .steps) Spent (searchOf q) limit
+  counted limit a c =
       let s = searched limit a in
       let e : enough more (searchOf q limit) ≡ outcomes.enough more (behind limit) = ap (enough more) s ∙ enough-told more (behind limit) in
-      let c = behind-counts limit (λ x. h (subst Spent (sym s) (spent-told (behind limit) x))) in
       record {
+        settled = λ h. c .settled (told-spent (behind limit) (subst Spent s h));
         held = subst (λ (n : ℕ). n ≤ limit) (sym e) (c .held);
         same = λ k l b. searched k b ∙ ap told (c .same k (subst (λ (n : ℕ). n ≤ k) e l) tt) ∙ sym s;
-        smaller = λ k l. below k (le-trans (le-of-lt (subst (λ (n : ℕ). k < n) e l)) (le-trans (c .held) a)) (c .smaller k (subst (λ (n : ℕ). k < n) e l));
+        smaller = λ k l. let l' = subst (λ (n : ℕ). k < n) e l in all-taken k (le-trans (le-of-lt l') (le-trans (c .held) a)) (c .smaller k l');
       }
-    where
-      below : (k : ℕ) → Allowed k → outcomes.Spent (behind k) × (outcomes.stepsOf (behind k) ≡ k) → Spent (searchOf q k) × (columns (searchOf q k) .steps ≡ k)
-      below k b x = (subst Spent (sym (searched k b)) (spent-told (behind k) (x .0)), ap (λ (w : Answer). columns w .steps) (searched k b) ∙ steps-told (behind k) ∙ x .1)
+
+  pub counts : Counts more (searchOf q)
+  counts limit a = elim (behind-counts limit tt) [ inl x ↦ inl (all-taken limit a x) | inr c ↦ inr (counted limit a c) ]
 
 -- ---- more patience changes nothing
 pub patient : (q : Question) → Patient (searchOf q)
-patient q limit larger l a h = let c = counts q limit (le-trans l a) h in c .same larger (le-trans (c .held) l) a
+patient q limit larger l a h = elim (counts q limit (le-trans l a)) [ inl x ↦ absurd (h (x .0)) | inr c ↦ c .same larger (le-trans (c .held) l) a ]
 
 -- ---- call by call
 pub pv2T-patient : (region : PvRegion) (p v : Float) → Patient (pv2T region p v)

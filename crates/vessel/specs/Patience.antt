@@ -4,7 +4,7 @@ use Prim.Native.Nat.{ℕ, _+_, _≤_}
 use mathlib.Core.Path.{_≡_}
 use mathlib.Core.Bool.{cond}
 use lib.Dec.{eqb}
-use Rattle.search.specs.Patience.{Counted}
+use Rattle.search.specs.Patience.{CountedUnder}
 use Rattle.vessel.specs.Answer.{Reason, none, plain, exactEnd, smallResidual, narrow, Columns, columns}
 use Rattle.vessel.specs.Searches.{largestLimit}
 use Rattle.vessel.specs.declared.answer.Answer.{Answer}
@@ -34,6 +34,6 @@ enoughBy narrow more c = c .steps + more
 abbrev pub enough : ℕ → Answer → ℕ
 enough more a = enoughBy (columns a .reason) more (columns a)
 
--- what is given under an allowed limit, unless it is 8, is the same under every allowed limit that is enough for it, and under every smaller one it is 8, after as many steps as that allows
+-- under each allowed limit there is 8, after as many steps as it allows, or what is the same under every allowed limit that is enough for it, and under every smaller one 8 likewise
 abbrev pub Counts : ℕ → (ℕ → Answer) → Type 0
-Counts more answer = (limit : ℕ) → Allowed limit → (Spent (answer limit) → ⊥) → Counted Allowed (enough more) (λ a. columns a .steps) Spent answer limit
+Counts more answer = CountedUnder Allowed (enough more) (λ a. columns a .steps) Spent answer
