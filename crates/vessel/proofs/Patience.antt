@@ -1,6 +1,6 @@
 -- More patience changes nothing, and the steps are a promise: one theorem over all pairs, of whatever inputs, and by the name of each call. An outcome is told as an answer without the limit, the rows
 -- behind that of 11 read no limit and take no step, and what follows them is a search between two ends, whose steps count. Assumes nothing.
-use Prim.Native.Nat.{ℕ, _+_, _≤_, _<_}
+use Prim.Native.Nat.{ℕ, _≤_, _<_}
 use native.Mathlib.Nat.{le-of-lt, le-trans}
 use native.Mathlib.Omega.{arith}
 use mathlib.Core.Path.{_≡_, refl, sym, ap, _∙_, subst}
@@ -69,7 +69,7 @@ module _ (q : Question) where
   steps-told (Narrow x n b) = refl
   steps-told (Refused k x n b) = refl
 
-  -- ---- under an allowed limit the row of 11 does not hold; the others before the search read no limit,
+  -- ---- under an allowed limit the row of 11 does not hold, and the other rows before the search read no limit
   abbrev others : List (Row Outcome)
   others = drop 1 (take 6 (checks q 0))
 
@@ -90,7 +90,7 @@ module _ (q : Question) where
   unfolding searchOf
   searched k a = ap told (allowed k a)
 
-  -- take no step, and are not 8
+  -- their outcomes take no step, and are not 8
   abbrev NoStep : ℕ → Type 0
   NoStep number = (outcomes.enough more (refused number) ≡ 0) × (number ≡ 8 → ⊥)
 
