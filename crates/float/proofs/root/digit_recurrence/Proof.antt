@@ -92,7 +92,7 @@ loop-again : tie.Need-loop-again Inv-loop μ-loop
 loop-again c =
     let a = c .before .before .loop in
     let m = c .before .before .before .args .m in
-    let l = c .before .loop-test .taken in
+    let l : a .i < 54 = omega (arith, c .before .loop-test .taken) in
     ⊎-elim
     (λ w. rw (w .1, w .2) (turn-one m (a .reg) (a .rem) (a .root) (a .i) (a .inv) l (w .0 .taken)))
     (λ w. rw (w .1, w .2) (turn-zero m (a .reg) (a .rem) (a .root) (a .i) (a .inv) l (w .0 .left)))
@@ -111,7 +111,7 @@ returns : tie.Need-returns Inv-loop μ-loop
 returns c =
     let m = c .before .before .args .m in
     let l = c .before .loop in
-    floor-only (m * 2 ^ 44) (l .root) (isqrt 54 (m * 2 ^ 44)) (whole m (l .reg) (l .rem) (l .root) (l .i) (l .inv) (c .loop-test .left)) (isqrt-floor 54 (m * 2 ^ 44) (omega arith))
+    floor-only (m * 2 ^ 44) (l .root) (isqrt 54 (m * 2 ^ 44)) (whole m (l .reg) (l .rem) (l .root) (l .i) (l .inv) (omega (arith, c .loop-test .left))) (isqrt-floor 54 (m * 2 ^ 44) (omega arith))
 
 pub digit-recurrence-spec : {M : Type 1} → statement M
 digit-recurrence-spec = tie.close (tie.spec Inv-loop μ-loop loop-holds mul-rem add-rem mul-trial add-trial mul-root add-root add-i loop-less loop-again returns)
