@@ -1,4 +1,4 @@
-/* Times the public calls of two builds of Climboat, before and after, in turn and on the same inputs: compare/builds links it with both.
+/* Times the public calls, or some formulas, of two builds of Climboat, before and after, in turn and on the same inputs: compare/builds links it with both.
  * Each figure is the median of nine passes, in nanoseconds for a call. */
 #define _POSIX_C_SOURCE 199309L
 #include <math.h>
@@ -13,19 +13,25 @@ enum { STATES = 20000, SEARCHED = 2000, PASSES = 9, LIMIT = 20000 };
 typedef void property_call(uint32_t region, uint32_t property, double p, double T, uint32_t *numbers, double *doubles);
 typedef void line_call(double x, uint32_t *numbers, double *doubles);
 typedef void search_call(uint32_t region, double fixed, double target, uint32_t limit, uint32_t *numbers, double *doubles);
+typedef double formula_call(double x);
 
 struct build {
     property_call *pT;
     line_call *lines[4];
     search_call *searches[4];
+    formula_call *formulas[5];
 };
 
+/* Weak, since an archive has the calls or the formulas: what it does not have is null. */
 #define DECLARED(build) \
-    extern property_call build##_pT; \
-    extern line_call build##_saturation_pressure, build##_saturation_temperature, build##_B23_pressure, build##_B23_temperature; \
-    extern search_call build##_pv2T, build##_Tv2p, build##_Th2p, build##_Ts2p
+    extern __attribute__((weak)) property_call build##_pT; \
+    extern __attribute__((weak)) line_call build##_saturation_pressure, build##_saturation_temperature, build##_B23_pressure, build##_B23_temperature; \
+    extern __attribute__((weak)) search_call build##_pv2T, build##_Tv2p, build##_Th2p, build##_Ts2p; \
+    extern __attribute__((weak)) formula_call build##_formula_float_sqrt, build##_formula_float_fourth_root, build##_formula_float_ln; \
+    extern __attribute__((weak)) formula_call build##_formula_saturation_pressure, build##_formula_saturation_temperature
 #define OFFERED(build) \
-    { build##_pT, { build##_saturation_pressure, build##_saturation_temperature, build##_B23_pressure, build##_B23_temperature }, { build##_pv2T, build##_Tv2p, build##_Th2p, build##_Ts2p } }
+    { build##_pT, { build##_saturation_pressure, build##_saturation_temperature, build##_B23_pressure, build##_B23_temperature }, { build##_pv2T, build##_Tv2p, build##_Th2p, build##_Ts2p }, \
+      { build##_formula_float_sqrt, build##_formula_float_fourth_root, build##_formula_float_ln, build##_formula_saturation_pressure, build##_formula_saturation_temperature } }
 
 DECLARED(before);
 DECLARED(after);
@@ -34,13 +40,14 @@ static const struct build before = OFFERED(before), after = OFFERED(after);
 /* By their places in struct build. */
 enum line { SATURATION_PRESSURE, SATURATION_TEMPERATURE, B23_PRESSURE, B23_TEMPERATURE };
 enum search { PV, TV, TH, TS };
+enum formula { SQUARE_ROOT, FOURTH_ROOT, LOGARITHM, PRESSURE_FORMULA, TEMPERATURE_FORMULA };
 
 /* By their numbers in a (p,T) call. */
 enum property { V = 1, S = 3, H = 4, W = 7 };
 
-enum form { PROPERTY, LINE, SEARCH };
+enum form { PROPERTY, LINE, SEARCH, FORMULA };
 
-/* A call with all but its inputs: which property, line or search it is, and of which region. */
+/* A call with all but its inputs: which property, line, search or formula it is, and of which region. */
 struct call {
     const char *name;
     enum form form;
@@ -54,6 +61,8 @@ static const struct call calls[] = {
     { "B23 pressure", LINE, B23_PRESSURE, 0 }, { "B23 temperature", LINE, B23_TEMPERATURE, 0 },
     { "region 1 (p,v) to T", SEARCH, PV, 1 }, { "region 1 (T,v) to p", SEARCH, TV, 1 }, { "region 1 (T,h) to p", SEARCH, TH, 1 }, { "region 1 (T,s) to p", SEARCH, TS, 1 },
     { "region 2 (p,v) to T", SEARCH, PV, 2 }, { "region 2 (T,v) to p", SEARCH, TV, 2 }, { "region 2 (T,h) to p", SEARCH, TH, 2 }, { "region 2 (T,s) to p", SEARCH, TS, 2 },
+    { "square root", FORMULA, SQUARE_ROOT, 0 }, { "fourth root", FORMULA, FOURTH_ROOT, 0 }, { "logarithm", FORMULA, LOGARITHM, 0 },
+    { "saturation pressure, formula alone", FORMULA, PRESSURE_FORMULA, 0 }, { "saturation temperature, formula alone", FORMULA, TEMPERATURE_FORMULA, 0 },
 };
 
 struct inputs {
@@ -64,19 +73,25 @@ struct inputs {
 static uint32_t numbers[8];
 static double doubles[8];
 
+static bool offers(const struct build *build, const struct call *call)
+{
+    return call->form == FORMULA ? build->formulas[call->which] != NULL : build->pT != NULL;
+}
+
 static void ask(const struct build *build, const struct call *call, struct inputs inputs)
 {
     switch (call->form) {
     case PROPERTY: build->pT(call->region, call->which, inputs.first, inputs.second, numbers, doubles); break;
     case LINE: build->lines[call->which](inputs.first, numbers, doubles); break;
     case SEARCH: build->searches[call->which](call->region, inputs.first, inputs.second, LIMIT, numbers, doubles); break;
+    case FORMULA: doubles[0] = build->formulas[call->which](inputs.first); break;
     }
 }
 
 static bool answers(const struct build *build, const struct call *call, struct inputs inputs)
 {
     ask(build, call, inputs);
-    return numbers[0] == 0;
+    return call->form == FORMULA ? isfinite(doubles[0]) : numbers[0] == 0;
 }
 
 /* xorshift64* from a fixed seed, as in src/draw.rs: from 0 to 1. */
@@ -119,8 +134,11 @@ static struct inputs state(uint32_t region)
 static struct inputs drawn(const struct call *call)
 {
     static const struct inputs ranges[] = { { 273.15, 647.096 }, { 0.000611212677, 22.064 }, { 623.15, 863.15 }, { 16.5291643, 100.0 } };
+    static const struct inputs of_formulas[] = { { 1.0e-8, 1.0e8 }, { 1.0e-8, 1.0e8 }, { 1.0e-8, 101.0 }, { 273.15, 647.096 }, { 0.000611212677, 22.064 } };
     static const enum property targets[] = { V, V, H, S };
     struct inputs at;
+    if (call->form == FORMULA)
+        return (struct inputs){ logarithmic(of_formulas[call->which].first, of_formulas[call->which].second), 0.0 };
     if (call->form == LINE)
         return (struct inputs){ between(ranges[call->which].first, ranges[call->which].second), 0.0 };
     at = state(call->region);
@@ -164,24 +182,38 @@ static double median(double times[PASSES])
     return times[PASSES / 2];
 }
 
-int main(void)
+/* A line of the table, or false where no input is answered by both. */
+static bool row(const struct call *call)
 {
     static struct inputs list[STATES];
-    puts("| call | before | after | after/before |\n|---|---|---|---|");
-    for (size_t n = 0; n < sizeof calls / sizeof calls[0]; n++) {
-        double times[2][PASSES], medians[2];
-        int count = prepared(&calls[n], list);
-        if (count == 0) {
-            fprintf(stderr, "builds: %s: no input that both builds answer\n", calls[n].name);
-            return 1;
-        }
-        for (int turn = 0; turn < PASSES; turn++) {
-            times[0][turn] = pass(&before, &calls[n], list, count);
-            times[1][turn] = pass(&after, &calls[n], list, count);
-        }
-        medians[0] = median(times[0]);
-        medians[1] = median(times[1]);
-        printf("| %s | %.1f ns | %.1f ns | %.2f |\n", calls[n].name, medians[0], medians[1], medians[1] / medians[0]);
+    double times[2][PASSES], medians[2];
+    int count = prepared(call, list);
+    if (count == 0) {
+        fprintf(stderr, "builds: %s: no input that both builds answer\n", call->name);
+        return false;
     }
-    return 0;
+    for (int turn = 0; turn < PASSES; turn++) {
+        times[0][turn] = pass(&before, call, list, count);
+        times[1][turn] = pass(&after, call, list, count);
+    }
+    medians[0] = median(times[0]);
+    medians[1] = median(times[1]);
+    printf("| %s | %.1f ns | %.1f ns | %.2f |\n", call->name, medians[0], medians[1], medians[1] / medians[0]);
+    return true;
+}
+
+int main(void)
+{
+    int rows = 0;
+    for (size_t n = 0; n < sizeof calls / sizeof calls[0]; n++) {
+        if (!offers(&before, &calls[n]) || !offers(&after, &calls[n]))
+            continue;
+        if (rows++ == 0)
+            puts("| call | before | after | after/before |\n|---|---|---|---|");
+        if (!row(&calls[n]))
+            return 1;
+    }
+    if (rows == 0)
+        fprintf(stderr, "builds: the two archives are not of one crate\n");
+    return rows == 0;
 }
