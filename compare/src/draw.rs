@@ -73,6 +73,13 @@ pub const SHORT: [f64; 18] = [
     f64::INFINITY,
 ];
 
+/// These with both signs, and NaN.
+pub fn signed_short() -> Vec<f64> {
+    let mut list: Vec<f64> = SHORT.iter().flat_map(|&x| [x, -x]).collect();
+    list.push(f64::NAN);
+    list
+}
+
 /// The same double: bit for bit, or both NaN (Rust leaves a NaN's bits open).
 pub fn same(a: f64, b: f64) -> bool {
     a.to_bits() == b.to_bits() || (a.is_nan() && b.is_nan())

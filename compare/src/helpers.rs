@@ -1,19 +1,14 @@
 //! The float helpers of document 01's module 2 against Rust's own.
 
 use crate::climboat;
-use crate::draw::{same, Draw, SHORT};
+use crate::draw::{same, signed_short, Draw};
+use crate::roots;
 use crate::tally::Tally;
 
 /// Every helper; whether all agreed.
 pub fn compare() -> bool {
-    let all = [powers(), roots(), logarithms(), signs()];
+    let all = [powers(), roots::compare(), logarithms(), signs()];
     all.iter().all(|&ok| ok)
-}
-
-fn signed_short() -> Vec<f64> {
-    let mut list: Vec<f64> = SHORT.iter().flat_map(|&x| [x, -x]).collect();
-    list.push(f64::NAN);
-    list
 }
 
 fn powers() -> bool {
@@ -35,31 +30,6 @@ fn powers() -> bool {
         }
     }
     tally.told(&format!("; {} bases", bases.len()))
-}
-
-fn roots() -> bool {
-    let mut tally = Tally::new("square root");
-    let mut fourth = Tally::new("fourth root");
-    let mut draw = Draw::new(0x0c1b_0a70_0000_0002);
-    let mut one = |x: f64| {
-        tally.check(same(climboat::sqrt(x), x.sqrt()), || format!("{:016x}", x.to_bits()));
-        fourth.check(same(climboat::fourth_root(x), x.sqrt().sqrt()), || format!("{:016x}", x.to_bits()));
-    };
-    signed_short().into_iter().for_each(&mut one);
-    for _ in 0..3_000_000 {
-        one(f64::from_bits(draw.bits()));
-        one(f64::from_bits(draw.bits() >> 1));
-    }
-    for _ in 0..1_000_000 {
-        one(f64::from_bits(draw.bits() >> (12 + draw.below(52))));
-        let r = f64::from_bits(draw.bits() >> 12 | (0x3ff - 400 + draw.below(800)) << 52);
-        let square = (r * r).to_bits();
-        for b in [square - 1, square, square + 1] {
-            one(f64::from_bits(b));
-        }
-    }
-    let a = tally.told("");
-    fourth.told("") && a
 }
 
 fn logarithms() -> bool {

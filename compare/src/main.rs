@@ -19,6 +19,7 @@ mod plausible;
 mod question;
 #[cfg(feature = "original")]
 mod recorded;
+mod roots;
 #[cfg(feature = "original")]
 mod searches;
 #[cfg(feature = "original")]

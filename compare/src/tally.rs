@@ -22,6 +22,16 @@ impl Tally {
         }
     }
 
+    pub fn tried(&self) -> u64 {
+        self.tried
+    }
+
+    /// Counts what another has counted, too.
+    pub fn add(&mut self, other: &Tally) {
+        self.tried += other.tried;
+        self.differ += other.differ;
+    }
+
     /// Prints the line, with whatever else is to be said, and answers whether nothing differed.
     pub fn told(self, more: &str) -> bool {
         println!("{}: {} compared, {} differ{}", self.what, self.tried, self.differ, more);
