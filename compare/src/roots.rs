@@ -397,7 +397,7 @@ fn zero(mut low: u64, mut high: u64) -> Option<u64> {
     Some(low)
 }
 
-/// Any bit patterns, positive and of both signs, infinities and every kind of NaN among them.
+/// Any bit patterns, positive and of both signs; infinities and NaN among them.
 fn any_bits(roots: &mut Roots, draw: &mut Draw) -> String {
     for x in signed_short() {
         roots.one(x.to_bits());
