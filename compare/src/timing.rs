@@ -145,6 +145,15 @@ fn searches() {
     let _ = std::panic::take_hook();
 }
 
+/// The function of an input to which nothing is added, but the result before has to be known: how long one call takes, and not how many are under way at once.
+fn in_turn(f: impl Fn(f64) -> f64) -> impl FnMut(&f64) -> f64 {
+    let mut last = 0.0;
+    move |&x| {
+        last = f(x + 0.0 * last);
+        last
+    }
+}
+
 fn helpers() {
     let mut draw = Draw::new(0x0c1b_0a70_0000_0005);
     let powers: Vec<(f64, i32)> = (0..200_000).map(|_| (draw.between(0.01, 8.0), draw.below(102) as i32 - 43)).collect();
@@ -153,6 +162,7 @@ fn helpers() {
     head("helper", "Rust");
     row("whole power, exponents -43 to 58", &powers, |p| climboat::powi(p.0, p.1), |p| p.0.powi(p.1));
     row("square root", &roots, |&x| climboat::sqrt(x), |&x| x.sqrt());
+    row("square root, each waiting for the one before", &roots, in_turn(climboat::sqrt), in_turn(f64::sqrt));
     row("fourth root", &roots, |&x| climboat::fourth_root(x), |&x| x.sqrt().sqrt());
     row("logarithm", &logs, |&x| climboat::ln(x), |&x| x.ln());
 }
