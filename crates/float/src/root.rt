@@ -1,4 +1,4 @@
-// The square root of a double, correctly rounded, and the fourth root.
+// The square root of a double, correctly rounded: by a first guess that is corrected, or else digit by digit. And the fourth root.
 ghost use mathlib.Core.Path.{_≡_};
 ghost use Prim.Native.Nat.{_+_, _*_, _^_, _≤_, _<_};
 ghost use lib.Ieee.{binary64, ofBits};
@@ -71,9 +71,11 @@ fn newton(half: f64, y: f64) -> f64 {
     1.5 * y - half * y * (y * y)
 }
 
-// A first guess at floor_root's result, from the double's own bits b. Nothing rests on it but the time: of a normal double it is 0 to 3 too low, as far as was seen (docs/SPEED.md).
-// The significand, with the last digit of the exponent, is an x from 0.5 up to 2. Half its bits taken from a constant are those of 1 over its root to 3.5 parts in 100;
-// three of Newton's steps make that 1 in 10^10, and a last one, of the root itself, leaves what two roundings leave. The significand of that, less one, is doubled.
+// A first guess at what floor_root finds, from the double's own bits b. Only the time rests on it: a normal double's was never
+// seen too high, or more than 3 too low (docs/SPEED.md), and a bad one is not taken for the root.
+// x is the significand with the last digit of the exponent, from 0.5 up to 2. Half its bits, taken from a constant, give those
+// of 1 over its root to 3.5 parts in 100, and three of Newton's steps leave 4 parts in 10^11 of that. The root s, which
+// follows from it, takes a step too, and then there is no more than rounding. The significand, less one, is doubled.
 fn guess(b: u64) -> u64
     ensures { λ r. ⌜ r < 2 ^ 54 ⌝ }
 {
@@ -90,8 +92,9 @@ fn guess(b: u64) -> u64
     2 * (f64::to_bits(root) % 0x0010_0000_0000_0000 + 0x000f_ffff_ffff_ffff)
 }
 
-// The whole part of the root of m * 2^44. The guess from b is squared, exactly, and raised by as much as 3; what its square then leaves shows whether it is the root.
-// Where it is not, as of a subnormal, or where the guess is too high or so low that what is left does not fit 64 bits, the digit recurrence finds it.
+// The whole part of the root of m * 2^44. The guess from b is squared, exactly, and raised by as much as 3; what is then left
+// above its square shows whether it is the root. Where it is not, where the guess is too high, or where what is left does not
+// fit 64 bits, the digit recurrence finds it: so of subnormals, whose bits give no guess.
 fn floor_root(m: u64, b: u64) -> u64
     ensures { λ r. ⌜ r ≡ isqrt 54 (m * 2 ^ 44) ⌝ }
 {
@@ -103,14 +106,11 @@ fn floor_root(m: u64, b: u64) -> u64
         if high - s.high < 1024 {
             let left = (high - s.high) * 0x0040_0000_0000_0000 + low;
             if s.low <= left {
-                let near = raise(
-                    Candidate {
-                        root: g,
-                        rest: left - s.low,
-                    },
-                    2,
-                );
-                let r = raise(near, 1);
+                let c = Candidate {
+                    root: g,
+                    rest: left - s.low,
+                };
+                let r = raise(raise(c, 2), 1);
                 if r.rest <= 2 * r.root {
                     return r.root;
                 }
