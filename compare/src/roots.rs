@@ -42,7 +42,7 @@ pub fn compare() -> bool {
     let mut good = true;
     let mut all = Tally::new("square root");
     let mut roots = Roots { kind: Tally::new(""), fourth: Tally::new("fourth root, of each eleventh of these"), turn: 0, guesses: Guesses::default() };
-    for ((name, kind), seed) in KINDS.iter().zip(0x0c1b_0a70_0000_0051..) {
+    for ((name, kind), seed) in KINDS.iter().zip(0x0c1b_0a70_0000_0061..) {
         roots.kind = Tally::new(name);
         let more = kind(&mut roots, &mut Draw::new(seed));
         all.add(&roots.kind);
