@@ -1,6 +1,6 @@
 // The square root of a double, correctly rounded: by a first guess that is corrected, or else digit by digit. And the fourth root.
 ghost use mathlib.Core.Path.{_≡_};
-ghost use Prim.Native.Nat.{_+_, _*_, _^_, _≤_, _<_};
+ghost use Prim.Native.Nat.{_+_, _*_, _/_, _%_, _^_, _≤_, _<_};
 ghost use lib.Ieee.{binary64, ofBits};
 ghost use Rattle.float.specs.Root.{isqrt, squareRoot, fourthRoot};
 
@@ -33,7 +33,7 @@ struct Wide {
 // q squared, from its halves of 27 digits.
 fn square(q: u64) -> Wide
     requires { ⌜ q < 2 ^ 54 ⌝ }
-    ensures { λ r. ⌜ (r .high * 2 ^ 54 + r .low ≡ q * q) × (r .low < 2 ^ 54) ⌝ }
+    ensures { λ r. ⌜ (r .high ≡ q * q / 2 ^ 54) × (r .low ≡ q * q % 2 ^ 54) ⌝ }
 {
     let a = q >> 27;
     let b = q % 0x0800_0000;

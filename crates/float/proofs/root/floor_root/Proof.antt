@@ -41,7 +41,7 @@ returns c =
     let n = m * 2 ^ 44 in
     let r = raises .raise2 .result in
     let kept : r .root * r .root + r .rest ≡ n =
-    omega (arith, squares .square .ensures .0, tests .before .before .before .before .before .if1 .taken, tests .if3 .taken, raises .before .raise .ensures .0, raises .raise2 .ensures .0) in
+    omega (arith, squares .square .ensures, tests .before .before .before .before .before .if1 .taken, tests .if3 .taken, raises .before .raise .ensures .0, raises .raise2 .ensures .0) in
     let last : r .rest ≤ 2 * r .root = omega (arith, c .if4 .taken) in
     floor-only n (r .root) (isqrt 54 n) (omega arith, omega arith) (isqrt-floor 54 n (omega arith))
 
