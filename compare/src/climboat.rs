@@ -151,10 +151,13 @@ impl From<copy::run::Run> for Record {
     }
 }
 
+// inlined, as the header's are in C: where the record is copied on, the timings are of the copy too
+#[inline]
 pub fn property(region: u32, property: u32, p: f64, t: f64) -> Record {
     written([p, t], |numbers, doubles| unsafe { climboat_pT_columns(region, property, p, t, numbers, doubles) })
 }
 
+#[inline]
 pub fn line(line: Line, x: f64) -> Record {
     let call = match line {
         Line::SaturationPressure => climboat_saturation_pressure_columns,

@@ -1,5 +1,6 @@
 //! The equations of regions 1 and 2, the saturation line and B23 against the original crate.
 
+use crate::bars::{self, TimeBar};
 use crate::climboat;
 use crate::draw::{same, Draw};
 use crate::tally::Tally;
@@ -24,30 +25,38 @@ pub struct Row {
     pub ours: Property,
     pub rusts: Property,
     pub bar: Bar,
+    /// how long it may take
+    pub time: Option<TimeBar>,
 }
 
 const fn row(name: &'static str, ours: Property, rusts: Property, bar: Bar) -> Row {
-    Row { name, ours, rusts, bar }
+    Row { name, ours, rusts, bar, time: None }
+}
+
+impl Row {
+    const fn in_time(self, time: TimeBar) -> Row {
+        Row { time: Some(time), ..self }
+    }
 }
 
 pub const REGION_1: [Row; 7] = [
-    row("region 1 v", climboat::region1_v, r1::pT2v_reg1, Bar::Bits),
-    row("region 1 u", climboat::region1_u, r1::pT2u_reg1, Bar::Bits),
-    row("region 1 s", climboat::region1_s, r1::pT2s_reg1, Bar::Bits),
-    row("region 1 h", climboat::region1_h, r1::pT2h_reg1, Bar::Bits),
-    row("region 1 cp", climboat::region1_cp, r1::pT2cp_reg1, Bar::Bits),
-    row("region 1 cv", climboat::region1_cv, r1::pT2cv_reg1, Bar::Bits),
-    row("region 1 w", climboat::region1_w, r1::pT2w_reg1, Bar::Bits),
+    row("region 1 v", climboat::region1_v, r1::pT2v_reg1, Bar::Bits).in_time(bars::REGION_1_V),
+    row("region 1 u", climboat::region1_u, r1::pT2u_reg1, Bar::Bits).in_time(bars::PROPERTY),
+    row("region 1 s", climboat::region1_s, r1::pT2s_reg1, Bar::Bits).in_time(bars::PROPERTY),
+    row("region 1 h", climboat::region1_h, r1::pT2h_reg1, Bar::Bits).in_time(bars::PROPERTY),
+    row("region 1 cp", climboat::region1_cp, r1::pT2cp_reg1, Bar::Bits).in_time(bars::PROPERTY),
+    row("region 1 cv", climboat::region1_cv, r1::pT2cv_reg1, Bar::Bits).in_time(bars::PROPERTY),
+    row("region 1 w", climboat::region1_w, r1::pT2w_reg1, Bar::Bits).in_time(bars::PROPERTY),
 ];
 
 pub const REGION_2: [Row; 7] = [
-    row("region 2 v", climboat::region2_v, r2::pT2v_reg2, Bar::Bits),
-    row("region 2 u", climboat::region2_u, r2::pT2u_reg2, Bar::Bits),
+    row("region 2 v", climboat::region2_v, r2::pT2v_reg2, Bar::Bits).in_time(bars::PROPERTY),
+    row("region 2 u", climboat::region2_u, r2::pT2u_reg2, Bar::Bits).in_time(bars::PROPERTY),
     row("region 2 s", climboat::region2_s, r2::pT2s_reg2, Bar::Within(1.0e-12)),
-    row("region 2 h", climboat::region2_h, r2::pT2h_reg2, Bar::Bits),
-    row("region 2 cp", climboat::region2_cp, r2::pT2cp_reg2, Bar::Bits),
-    row("region 2 cv", climboat::region2_cv, r2::pT2cv_reg2, Bar::Bits),
-    row("region 2 w", climboat::region2_w, r2::pT2w_reg2, Bar::Bits),
+    row("region 2 h", climboat::region2_h, r2::pT2h_reg2, Bar::Bits).in_time(bars::PROPERTY),
+    row("region 2 cp", climboat::region2_cp, r2::pT2cp_reg2, Bar::Bits).in_time(bars::PROPERTY),
+    row("region 2 cv", climboat::region2_cv, r2::pT2cv_reg2, Bar::Bits).in_time(bars::PROPERTY),
+    row("region 2 w", climboat::region2_w, r2::pT2w_reg2, Bar::Bits).in_time(bars::PROPERTY),
 ];
 
 /// Every equation; whether all kept their bar.

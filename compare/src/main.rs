@@ -1,6 +1,10 @@
-//! Climboat against Rust: `compare helpers` compares the float helpers, `compare nans` asks every call with every kind of NaN, `compare equations` the equations with the original crate, `compare searches` the pair searches with its test copy and with itself, `compare doubles` any two doubles with the refusal table and the steps of bisection read a second time, `compare recorded` makes the answers that crates/replay keeps, `compare vacuum` searches region 2 (T,v) from a low vacuum upwards and makes a table of docs/DIFFERENCES.md, `compare timing` prints the tables of docs/SPEED.md.
+//! Climboat against Rust: `compare helpers` compares the float helpers, `compare nans` asks every call with every kind of NaN, `compare equations` the equations with the original crate, `compare searches` the pair searches with its test copy and with itself, `compare doubles` any two doubles with the refusal table and the steps of bisection read a second time, `compare recorded` makes the answers that crates/replay keeps, `compare vacuum` searches region 2 (T,v) from a low vacuum upwards and makes a table of docs/DIFFERENCES.md, `compare timing` prints the tables of docs/SPEED.md, with `--bars` also which of their bars were missed, `compare desk` prints the times and `compare desk states` the states and answers that compare/desk holds against a steam table in Python.
 
+mod bars;
+#[cfg(feature = "original")]
+mod bound;
 mod climboat;
+mod desk;
 #[cfg(feature = "original")]
 mod differences;
 #[cfg(feature = "original")]
@@ -9,6 +13,8 @@ mod draw;
 #[cfg(feature = "original")]
 mod equations;
 mod helpers;
+#[cfg(feature = "original")]
+mod many;
 mod nans;
 #[cfg(feature = "original")]
 mod pairs;
@@ -50,11 +56,25 @@ fn main() -> ExitCode {
             timing::tables();
             ExitCode::SUCCESS
         }
+        #[cfg(feature = "original")]
+        ["timing", "--bars"] => told(timing::tables().told()),
+        #[cfg(not(feature = "original"))]
+        ["timing", "--bars"] => {
+            eprintln!("compare: the bars are held against the original crate, and ../shared/docs/src is not at hand");
+            ExitCode::from(2)
+        }
+        ["desk"] => done(desk::print_times),
+        ["desk", "states"] => done(desk::print_states),
         _ => {
-            eprintln!("usage: compare helpers | nans | equations | searches | doubles [N] | recorded [FOLDER | --check] | vacuum [--check] | timing (helpers, nans and timing alone where the original crate is not at hand)");
+            eprintln!("usage: compare helpers | nans | equations | searches | doubles [N] | recorded [FOLDER | --check] | vacuum [--check] | timing [--bars] | desk [states] (helpers, nans, timing without --bars and desk alone where the original crate is not at hand)");
             ExitCode::from(2)
         }
     }
+}
+
+fn done(what: fn()) -> ExitCode {
+    what();
+    ExitCode::SUCCESS
 }
 
 fn told(good: bool) -> ExitCode {

@@ -1,5 +1,6 @@
 //! The eight pair searches, each as Climboat, the test copy and the original crate have it, and the states at which they are compared.
 
+use crate::bars::{self, TimeBar};
 use crate::climboat::{Pair, Record, LARGEST_LIMIT};
 use crate::draw::Draw;
 use crate::equations::{most, region_1, region_2};
@@ -31,18 +32,20 @@ pub struct Search {
     pub property: Function,
     pub copys: fn(f64, f64, i32) -> Run,
     pub rusts: Function,
+    /// how long it may take
+    pub time: Option<TimeBar>,
 }
 
 #[rustfmt::skip]
 pub const SEARCHES: [Search; 8] = [
-    Search { name: "region 1 (p,v) to T", region: 1, pair: Pair::Pv, width: Some(|_| 1.0e-6), ends: |p| (273.15, if p >= 16.5291643 { 623.15 } else { T_saturation(p) }), property: r1::pT2v_reg1, copys: copy1::pv2T_reg1, rusts: pairs1::pv2T_reg1 },
-    Search { name: "region 1 (T,v) to p", region: 1, pair: Pair::Tv, width: None, ends: |t| (p_saturation(t), 100.0), property: r1::pT2v_reg1, copys: copy1::Tv2p_reg1, rusts: pairs1::Tv2p_reg1 },
-    Search { name: "region 1 (T,h) to p", region: 1, pair: Pair::Th, width: None, ends: |t| (p_saturation(t), 100.0), property: r1::pT2h_reg1, copys: copy1::Th2p_reg1, rusts: pairs1::Th2p_reg1 },
-    Search { name: "region 1 (T,s) to p", region: 1, pair: Pair::Ts, width: None, ends: |t| (p_saturation(t), 100.0), property: r1::pT2s_reg1, copys: copy1::Ts2p_reg1, rusts: pairs1::Ts2p_reg1 },
-    Search { name: "region 2 (p,v) to T", region: 2, pair: Pair::Pv, width: None, ends: |p| (least(p), 1073.15), property: r2::pT2v_reg2, copys: copy2::pv2T_reg2, rusts: pairs2::pv2T_reg2 },
-    Search { name: "region 2 (T,v) to p", region: 2, pair: Pair::Tv, width: Some(|upper| 1.0e-6 * upper), ends: |_| (1.0e-8, 100.0), property: r2::pT2v_reg2, copys: copy2::Tv2p_reg2, rusts: pairs2::Tv2p_reg2 },
-    Search { name: "region 2 (T,h) to p", region: 2, pair: Pair::Th, width: None, ends: |_| (1.0e-8, 100.0), property: r2::pT2h_reg2, copys: copy2::Th2p_reg2, rusts: pairs2::Th2p_reg2 },
-    Search { name: "region 2 (T,s) to p", region: 2, pair: Pair::Ts, width: None, ends: |t| (1.0e-8, highest(t)), property: r2::pT2s_reg2, copys: copy2::Ts2p_reg2, rusts: pairs2::Ts2p_reg2 },
+    Search { name: "region 1 (p,v) to T", region: 1, pair: Pair::Pv, width: Some(|_| 1.0e-6), ends: |p| (273.15, if p >= 16.5291643 { 623.15 } else { T_saturation(p) }), property: r1::pT2v_reg1, copys: copy1::pv2T_reg1, rusts: pairs1::pv2T_reg1, time: Some(bars::SEARCH) },
+    Search { name: "region 1 (T,v) to p", region: 1, pair: Pair::Tv, width: None, ends: |t| (p_saturation(t), 100.0), property: r1::pT2v_reg1, copys: copy1::Tv2p_reg1, rusts: pairs1::Tv2p_reg1, time: Some(bars::SEARCH) },
+    Search { name: "region 1 (T,h) to p", region: 1, pair: Pair::Th, width: None, ends: |t| (p_saturation(t), 100.0), property: r1::pT2h_reg1, copys: copy1::Th2p_reg1, rusts: pairs1::Th2p_reg1, time: Some(bars::SEARCH) },
+    Search { name: "region 1 (T,s) to p", region: 1, pair: Pair::Ts, width: None, ends: |t| (p_saturation(t), 100.0), property: r1::pT2s_reg1, copys: copy1::Ts2p_reg1, rusts: pairs1::Ts2p_reg1, time: Some(bars::SEARCH) },
+    Search { name: "region 2 (p,v) to T", region: 2, pair: Pair::Pv, width: None, ends: |p| (least(p), 1073.15), property: r2::pT2v_reg2, copys: copy2::pv2T_reg2, rusts: pairs2::pv2T_reg2, time: Some(bars::SEARCH) },
+    Search { name: "region 2 (T,v) to p", region: 2, pair: Pair::Tv, width: Some(|upper| 1.0e-6 * upper), ends: |_| (1.0e-8, 100.0), property: r2::pT2v_reg2, copys: copy2::Tv2p_reg2, rusts: pairs2::Tv2p_reg2, time: Some(bars::SEARCH) },
+    Search { name: "region 2 (T,h) to p", region: 2, pair: Pair::Th, width: None, ends: |_| (1.0e-8, 100.0), property: r2::pT2h_reg2, copys: copy2::Th2p_reg2, rusts: pairs2::Th2p_reg2, time: Some(bars::SEARCH) },
+    Search { name: "region 2 (T,s) to p", region: 2, pair: Pair::Ts, width: None, ends: |t| (1.0e-8, highest(t)), property: r2::pT2s_reg2, copys: copy2::Ts2p_reg2, rusts: pairs2::Ts2p_reg2, time: None },
 ];
 
 /// The highest pressure of region 2 at t, beyond its range as the original has it: it keeps its own to itself.

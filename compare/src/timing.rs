@@ -1,62 +1,138 @@
-//! Timings against Rust's own, and of the public calls against the formulas in them, as ratios from one run: the median of nine.
+//! Timings against the original crate's and Rust's own, and of the public calls against the formulas in them, as ratios from one run: medians of nine passes.
 
+use crate::bars::Bars;
+#[cfg(feature = "original")]
+use crate::bars::{self, TimeBar};
 use crate::climboat::{self, Line, Pair, VESSELS_LIMIT};
 use crate::draw::Draw;
 use std::hint::black_box;
 use std::time::Instant;
 
-/// Nanoseconds for a pass over the inputs, the median of nine passes.
-fn median<T>(inputs: &[T], mut f: impl FnMut(&T) -> f64) -> f64 {
-    let mut times: Vec<f64> = (0..9)
-        .map(|_| {
-            let start = Instant::now();
-            for x in inputs {
-                black_box(f(black_box(x)));
-            }
-            start.elapsed().as_nanos() as f64 / inputs.len() as f64
-        })
-        .collect();
-    times.sort_by(f64::total_cmp);
-    times[4]
+/// One go over the inputs. It stays a call of its own, so that a short one is the same code as a long one.
+#[inline(never)]
+fn go<T>(inputs: &[T], f: &mut impl FnMut(&T) -> f64) {
+    for x in inputs {
+        black_box(f(black_box(x)));
+    }
 }
 
-fn row<T>(what: &str, inputs: &[T], ours: impl FnMut(&T) -> f64, rusts: impl FnMut(&T) -> f64) {
-    let a = median(inputs, ours);
-    let b = median(inputs, rusts);
-    println!("| {what} | {a:.1} ns | {b:.1} ns | {:.1} |", a / b);
+/// Nanoseconds for an input, of one pass over all of them in goes of so many, one behind the other.
+pub fn pass_in_goes<T>(inputs: &[T], calls: usize, mut f: impl FnMut(&T) -> f64) -> f64 {
+    let start = Instant::now();
+    for part in inputs.chunks(calls) {
+        go(part, &mut f);
+    }
+    start.elapsed().as_nanos() as f64 / inputs.len() as f64
 }
 
-fn head(what: &str, rusts: &str) {
-    println!("| {what} | Climboat | {rusts} | ratio |");
+/// The same in one go.
+pub fn pass<T>(inputs: &[T], f: impl FnMut(&T) -> f64) -> f64 {
+    pass_in_goes(inputs, usize::MAX, f)
+}
+
+/// The median of nine passes of each, taken in turn, so that a drift of the machine's clock meets all alike.
+pub fn medians<const N: usize>(mut passes: [&mut dyn FnMut() -> f64; N]) -> [f64; N] {
+    let mut times = [[0.0; 9]; N];
+    for turn in 0..9 {
+        for (times, pass) in times.iter_mut().zip(&mut passes) {
+            times[turn] = pass();
+        }
+    }
+    times.map(|mut nine| {
+        nine.sort_by(f64::total_cmp);
+        nine[4]
+    })
+}
+
+/// A row of two ways over the same inputs, up to its ratio, and the ratio.
+fn ratio<T>(what: &str, inputs: &[T], mut ours: impl FnMut(&T) -> f64, mut theirs: impl FnMut(&T) -> f64) -> (String, f64) {
+    let [a, b] = medians([&mut || pass(inputs, &mut ours), &mut || pass(inputs, &mut theirs)]);
+    (format!("| {what} | {a:.1} ns | {b:.1} ns | {:.2} |", a / b), a / b)
+}
+
+fn row<T>(what: &str, inputs: &[T], ours: impl FnMut(&T) -> f64, theirs: impl FnMut(&T) -> f64) {
+    println!("{}", ratio(what, inputs, ours, theirs).0);
+}
+
+fn head(what: &str, theirs: &str) {
+    println!("| {what} | Climboat | {theirs} | ratio |");
     println!("|---|---|---|---|");
 }
 
-pub fn tables() {
-    helpers();
-    println!();
-    calls();
-    #[cfg(feature = "original")]
-    for table in [properties, saturation_line, searches] {
-        println!();
-        table();
+/// A row against the original, with its bar and goal.
+#[cfg(feature = "original")]
+fn barred<T>(bars: &mut Bars, bar: Option<TimeBar>, what: &str, inputs: &[T], ours: impl FnMut(&T) -> f64, originals: impl FnMut(&T) -> f64) -> String {
+    let (row, ratio) = ratio(what, inputs, ours, originals);
+    row + &bars.hold(what, ratio, bar)
+}
+
+#[cfg(feature = "original")]
+fn barred_head(what: &str) {
+    println!("| {what} | Climboat | original | ratio | bar | goal |");
+    println!("|---|---|---|---|---|---|");
+}
+
+#[cfg(feature = "original")]
+const TABLES: &[fn(&mut Bars)] = &[asked, |_| helpers(), |_| calls(), properties, saturation_line, searches, |_| crate::bound::table(), |_| crate::many::table()];
+#[cfg(not(feature = "original"))]
+const TABLES: &[fn(&mut Bars)] = &[|_| helpers(), |_| calls()];
+
+/// Prints every table, and gives the bars that their rows were held against.
+pub fn tables() -> Bars {
+    let mut bars = Bars::default();
+    for (place, table) in TABLES.iter().enumerate() {
+        if place > 0 {
+            println!();
+        }
+        table(&mut bars);
     }
+    bars
 }
 
 /// Each a pressure and a temperature inside the region.
 type States = Vec<(f64, f64)>;
 
 /// 20,000 states of each region.
-fn states() -> [States; 2] {
+pub fn states() -> [States; 2] {
     let mut draw = Draw::new(0x0c1b_0a70_0000_0006);
     let one = (0..20_000).map(|_| (draw.between(20.0, 100.0), draw.between(273.15, 623.15))).collect();
     let two = (0..20_000).map(|_| (draw.logarithmic(1.0e-8, 0.0006), draw.between(273.15, 1073.15))).collect();
     [one, two]
 }
 
+/// A million states at which Climboat answers in region 1.
+#[cfg(feature = "original")]
+fn million(drawn: impl FnMut(u64) -> (f64, f64)) -> States {
+    (0..).map(drawn).filter(|&(p, t)| climboat::property(1, 1, p, t).number == 0).take(1_000_000).collect()
+}
+
+/// Those inside region 1, uniform in p and logarithmic in turn.
+#[cfg(feature = "original")]
+pub fn inside_region_1() -> States {
+    let mut draw = Draw::new(0x0c1b_0a70_0000_000a);
+    million(|n| crate::equations::region_1(&mut draw, n % 2))
+}
+
 /// 20,000 temperatures and pressures of the saturation line.
 fn saturated() -> [Vec<f64>; 2] {
     let mut draw = Draw::new(0x0c1b_0a70_0000_0007);
     [(0..20_000).map(|_| draw.between(273.15, 647.0)).collect(), (0..20_000).map(|_| draw.logarithmic(0.00062, 22.0)).collect()]
+}
+
+/// What document 02 asks, the public checked call against the original's formula, which checks nothing. Just above the saturation line a quick bound cannot tell the region, and the exact line is asked.
+#[cfg(feature = "original")]
+fn asked(bars: &mut Bars) {
+    use original::{r1::region1_pT::pT2v_reg1, r4::region4_sat_pT::p_saturation};
+    let mut draw = Draw::new(0x0c1b_0a70_0000_000b);
+    let near = million(|_| {
+        let t = draw.between(273.15, 623.15);
+        (p_saturation(t) * draw.between(1.0, 1.004), t)
+    });
+    let mut row = |bar, what: &str, states: States| barred(bars, bar, what, &states, |s| climboat::property(1, 1, s.0, s.1).value, |s| pT2v_reg1(s.0, s.1));
+    println!("| against the original, what was asked | Climboat | original | ratio | bar | goal | asked |");
+    println!("|---|---|---|---|---|---|---|");
+    println!("{} {:.1} |", row(Some(bars::CHECKED_CALL), "region 1 (p,T) to v by the public checked call, 1,000,000 states inside the region", inside_region_1()), bars::ASKED);
+    println!("{} - |", row(None, "the same within 0.4 parts in 100 above the saturation line, 1,000,000 states", near));
 }
 
 /// The nine public calls, against the one formula that they are of: what the checks and the record cost, and how many evaluations a search is worth.
@@ -110,46 +186,47 @@ fn search(pair: Pair, region: u32, name: &str, states: &[(f64, f64)]) {
 
 /// The fourteen properties.
 #[cfg(feature = "original")]
-fn properties() {
+fn properties(bars: &mut Bars) {
     use crate::equations::{REGION_1, REGION_2};
-    head("property", "original");
+    barred_head("property");
     for (rows, states) in [&REGION_1, &REGION_2].into_iter().zip(states()) {
         for r in rows {
-            row(r.name, &states, |s| (r.ours)(s.0, s.1), |s| (r.rusts)(s.0, s.1));
+            println!("{}", barred(bars, r.time, r.name, &states, |s| (r.ours)(s.0, s.1), |s| (r.rusts)(s.0, s.1)));
         }
     }
 }
 
 #[cfg(feature = "original")]
-fn saturation_line() {
+fn saturation_line(bars: &mut Bars) {
     use original::r4::region4_sat_pT::{T_saturation, p_saturation};
     let [temperatures, pressures] = saturated();
-    head("saturation line", "original");
-    row("saturation pressure", &temperatures, |&t| climboat::saturation_pressure(t), |&t| p_saturation(t));
-    row("saturation temperature", &pressures, |&p| climboat::saturation_temperature(p), |&p| T_saturation(p));
+    let bar = Some(bars::SATURATION);
+    barred_head("saturation line");
+    println!("{}", barred(bars, bar, "saturation pressure", &temperatures, |&t| climboat::saturation_pressure(t), |&t| p_saturation(t)));
+    println!("{}", barred(bars, bar, "saturation temperature", &pressures, |&p| climboat::saturation_temperature(p), |&p| T_saturation(p)));
 }
 
 /// The eight searches, each over those of 2,000 states at which both answer.
 #[cfg(feature = "original")]
-fn searches() {
+fn searches(bars: &mut Bars) {
     use crate::pairs::{LIMIT, SEARCHES};
     std::panic::set_hook(Box::new(|_| {}));
-    head("search", "original");
+    barred_head("search");
     for search in &SEARCHES {
         let mut draw = Draw::new(0x0c1b_0a70_0000_0008);
         let drawn = (0..2_000).map(|n| search.drawn(&mut draw, n % 2));
         let mut inputs: Vec<(f64, f64)> = drawn.map(|(fixed, x)| (fixed, search.at(fixed, x))).collect();
         inputs.retain(|&(fixed, target)| search.ours(fixed, target, LIMIT).number == 0 && std::panic::catch_unwind(|| (search.rusts)(fixed, target)).is_ok());
-        row(search.name, &inputs, |i| search.ours(i.0, i.1, LIMIT).value, |i| (search.rusts)(i.0, i.1));
+        println!("{}", barred(bars, search.time, search.name, &inputs, |i| search.ours(i.0, i.1, LIMIT).value, |i| (search.rusts)(i.0, i.1)));
     }
     let _ = std::panic::take_hook();
 }
 
-/// The function of an input to which nothing is added, but the result before has to be known: how long one call takes, and not how many are under way at once.
-fn in_turn(f: impl Fn(f64) -> f64) -> impl FnMut(&f64) -> f64 {
+/// The function, given a zero to add to an input, for which the result before has to be known: how long one call takes, and not how many are under way at once.
+pub fn in_turn<T>(f: impl Fn(&T, f64) -> f64) -> impl FnMut(&T) -> f64 {
     let mut last = 0.0;
-    move |&x| {
-        last = f(x + 0.0 * last);
+    move |x| {
+        last = f(x, 0.0 * last);
         last
     }
 }
@@ -162,7 +239,7 @@ fn helpers() {
     head("helper", "Rust");
     row("whole power, exponents -43 to 58", &powers, |p| climboat::powi(p.0, p.1), |p| p.0.powi(p.1));
     row("square root", &roots, |&x| climboat::sqrt(x), |&x| x.sqrt());
-    row("square root, each waiting for the one before", &roots, in_turn(climboat::sqrt), in_turn(f64::sqrt));
+    row("square root, each waiting for the one before", &roots, in_turn(|x, zero| climboat::sqrt(x + zero)), in_turn(|x, zero| (x + zero).sqrt()));
     row("fourth root", &roots, |&x| climboat::fourth_root(x), |&x| x.sqrt().sqrt());
     row("logarithm", &logs, |&x| climboat::ln(x), |&x| x.ln());
 }

@@ -1,21 +1,19 @@
 -- Laws of a table and of what is folded over it: its next row, its end, its parts, and the sum over its tiles. Assumes nothing.
 use Prim.Native.Nat.{ℕ, zero, suc, _+_, _-_, _≤_, _<_, min}
-use mathlib.Core.Path.{_≡_, _∙_, refl, ap, sym, subst}
-use mathlib.Core.Logic.{_⊎_, inl, inr}
-use mathlib.Core.Bool.{_&&_}
+use mathlib.Core.Path.{_≡_, _∙_, refl, ap, sym}
 use mathlib.Core.List.{List, [], _∷_, map, foldl-append}
 use native.Mathlib.Numerals.{add-one}
+use native.Mathlib.Nat.{le-trans}
 use native.Mathlib.Omega.{arith}
-use lib.Dec.{T, leb, leb→le, eqb, eqb→eq}
+use lib.Dec.{T}
 use lib.IntN.{ℤ, pos}
 use lib.Ieee.{Float, nan}
 use lib.Ieee.Fits.{and-i, and-l, and-r}
-use lib.ListN.{length, getD, take, drop, drop-of-length-le}
+use lib.ListN.{length, getD, take, drop, drop-of-length-le, length-take, length-drop}
 use lib.Seq.{drop-cons, take-add, take-all}
-use Rattle.exact.proofs.Grid.{either}
 use Rattle.polynomial.specs.Terms.{Row, row}
 use Rattle.polynomial.specs.Sums.{over}
-use Rattle.polynomial.specs.Tables.{rows, part, inRange, allInRange, cutsFrom, cuts}
+use Rattle.polynomial.specs.Tables.{rows, part, inRange, allInRange, Columns}
 
 -- ---- the columns of a table
 
@@ -37,41 +35,35 @@ module _ (is js : List ℤ) (ns : List Float) (k : ℕ) where
   unfolding rows
   next-row i j n hi hj hn = rw (drop-cons is k i hi, drop-cons js k j hj, drop-cons ns k n hn, add-one)
 
-  -- no row is left where a column ends
-  pub no-row : (length is ≤ k) ⊎ (length js ≤ k) ⊎ (length ns ≤ k) → rows (drop k is) (drop k js) (drop k ns) ≡ []
+  -- no row is left where the first column ends
+  pub no-row : length is ≤ k → rows (drop k is) (drop k js) (drop k ns) ≡ []
   unfolding rows
-  no-row (inl h) = rw (drop-of-length-le is h)
-  no-row (inr (inl h)) = rw (drop-of-length-le js h) (rows-end-2 (drop k is) (drop k ns))
-  no-row (inr (inr h)) = rw (drop-of-length-le ns h) (rows-end-3 (drop k is) (drop k js))
-
-shortest : {n : ℕ} (a b c k : ℕ) → n ≡ min a (min b c) → n ≤ k → (a ≤ k) ⊎ (b ≤ k) ⊎ (c ≤ k)
-shortest a b c k e h = elim (either a k) [ inl l ↦ inl l | inr l ↦ elim (either b k) [ inl m ↦ inr (inl m) | inr m ↦ inr (inr (omega arith)) ] ]
+  no-row h = rw (drop-of-length-le is h)
 
 -- ---- a loop over the columns
 
-module _ {S : Type 0} (f : S → Row → S) (s₀ : S) (is js : List ℤ) (ns : List Float) (n : ℕ) where
-  -- What holds before the turn at k, with the state s: the rows from k on, taken by s, give what all rows give, taken by s₀. n is the shortest column's length.
+module _ {S : Type 0} (f : S → Row → S) (s₀ : S) (is js : List ℤ) (ns : List Float) where
+  -- What holds before the turn at k, with the state s: the rows from k on, taken by s, give what all rows give, taken by s₀.
   pub record Left (s : S) (k : ℕ) : Type 0 where
-    pub within : k ≤ n
-    pub least : n ≡ min (length is) (min (length js) (length ns))
+    pub within : k ≤ length is
     pub same : over f s (rows (drop k is) (drop k js) (drop k ns)) ≡ over f s₀ (rows is js ns)
 
-  pub starts : n ≡ min (length is) (min (length js) (length ns)) → Left s₀ 0
-  starts l = record { within = omega arith; least = l; same = refl }
+  pub starts : Left s₀ 0
+  starts = record { within = omega arith; same = refl }
 
-  pub goes-on : {s t : S} {k : ℕ} → Left s k → k < n → t ≡ f s (row (getD is k (pos 0)) (getD js k (pos 0)) (getD ns k nan)) → Left t (k + 1)
+  pub goes-on : {s t : S} {k : ℕ} → Columns is js ns → Left s k → k < length is → t ≡ f s (row (getD is k (pos 0)) (getD js k (pos 0)) (getD ns k nan)) → Left t (k + 1)
   unfolding over
-  goes-on {s} {t} {k} v h e =
+  goes-on {s} {t} {k} c v h e =
+      let j = c .as-long-j in
+      let n = c .as-long-n in
       record {
         within = omega arith;
-        least = v .least;
-        same = rw e (sym (ap (over f s) (next-row is js ns k (pos 0) (pos 0) nan (omega arith) (omega arith) (omega arith))) ∙ v .same);
+        same = rw e (sym (ap (over f s) (next-row is js ns k (pos 0) (pos 0) nan h (omega arith) (omega arith))) ∙ v .same);
       }
 
-  pub ends : {s : S} {k : ℕ} → Left s k → n ≤ k → s ≡ over f s₀ (rows is js ns)
+  pub ends : {s : S} {k : ℕ} → Left s k → length is ≤ k → s ≡ over f s₀ (rows is js ns)
   unfolding over
-  ends {s} {k} v h =
-      sym (ap (over f s) (no-row is js ns k (shortest (length is) (length js) (length ns) k (v .least) h))) ∙ v .same
+  ends {s} {k} v h = sym (ap (over f s) (no-row is js ns k h)) ∙ v .same
 
 pub rows-take : (k : ℕ) (is js : List ℤ) (ns : List Float) → rows (take k is) (take k js) (take k ns) ≡ take k (rows is js ns)
 unfolding rows
@@ -96,7 +88,7 @@ pub rows-part : (a e : ℕ) (is js : List ℤ) (ns : List Float)
     → rows (take (e - a) (drop a is)) (take (e - a) (drop a js)) (take (e - a) (drop a ns)) ≡ part a e (rows is js ns)
 rows-part a e is js ns = rows-take (e - a) (drop a is) (drop a js) (drop a ns) ∙ ap (take (e - a)) (rows-drop a is js ns)
 
-pub rows-length : (is js : List ℤ) (ns : List Float) → length (rows is js ns) ≤ length is
+rows-length : (is js : List ℤ) (ns : List Float) → length (rows is js ns) ≤ length is
 unfolding rows
 rows-length [] js ns = omega arith
 rows-length (i ∷ is) [] ns = omega arith
@@ -146,31 +138,6 @@ module _ {S : Type 0} (f : S → Row → S) (s : S) (rs : List Row) where
   pub upto-all : {x : S} (a : ℕ) → length rs ≤ a → Upto x a → x ≡ over f s rs
   upto-all a h p = p ∙ ap (over f s) (take-all a rs h)
 
--- ---- the cuts, one after the other
-pub cut-start : (n : ℕ) (es : List ℕ) → T (cuts n es) → T (cutsFrom n 0 (drop 1 es))
-cut-start n [] c = absurd c
-cut-start n (a ∷ es) c = subst (λ (z : ℕ). T (cutsFrom n z es)) (eqb→eq a 0 (and-l (eqb a 0) (cutsFrom n a es) c)) (and-r (eqb a 0) (cutsFrom n a es) c)
-
-pub cut-end : (n a : ℕ) (es : List ℕ) (t : ℕ) → length es ≤ t → T (cutsFrom n a (drop t es)) → a ≡ n
-unfolding cutsFrom
-cut-end n a es t h c = eqb→eq a n (rw (drop-of-length-le es h) at c)
-
-pub record Cut (n a e : ℕ) (rest : List ℕ) : Type 0 where
-  pub rises : a ≤ e
-  pub within : e ≤ n
-  pub after : T (cutsFrom n e rest)
-
-pub cut-next : (n a : ℕ) (es : List ℕ) (t : ℕ) → t < length es → T (cutsFrom n a (drop t es)) → Cut n a (getD es t 0) (drop (t + 1) es)
-unfolding cutsFrom
-cut-next n a es t h c =
-    let e = getD es t 0 in
-    let d = rw (drop-cons es t 0 h) at c in
-    record {
-      rises = leb→le a e (and-l (leb a e) (leb e n) (and-l (leb a e && leb e n) (cutsFrom n e (drop (suc t) es)) d));
-      within = leb→le e n (and-r (leb a e) (leb e n) (and-l (leb a e && leb e n) (cutsFrom n e (drop (suc t) es)) d));
-      after = rw add-one (and-r (leb a e && leb e n) (cutsFrom n e (drop (suc t) es)) d);
-    }
-
 -- ---- exponents in range: of an entry, and of a part
 pub range-at : (ks : List ℤ) (i : ℕ) (d : ℤ) → i < length ks → T (allInRange ks) → T (inRange (getD ks i d))
 unfolding allInRange
@@ -192,3 +159,45 @@ range-take (suc n) (k ∷ ks) a = and-i (inRange k) (allInRange (take n ks)) (an
 
 pub range-part : (a e : ℕ) (ks : List ℤ) → T (allInRange ks) → T (allInRange (part a e ks))
 range-part a e ks h = range-take (e - a) (drop a ks) (range-drop a ks h)
+
+-- ---- a part of a table's columns
+part-length : {A B : Type 0} (a e : ℕ) (xs : List A) (ys : List B) → length xs ≡ length ys → length (part a e xs) ≡ length (part a e ys)
+part-length a e xs ys h =
+    length-take (e - a) (drop a xs) ∙ ap (min (e - a)) (length-drop a xs ∙ ap (λ (n : ℕ). n - a) h ∙ sym (length-drop a ys)) ∙ sym (length-take (e - a) (drop a ys))
+
+pub columns-part : (a e : ℕ) (is js : List ℤ) (ns : List Float) → Columns is js ns → Columns (part a e is) (part a e js) (part a e ns)
+columns-part a e is js ns c =
+    record {
+      firsts = range-part a e is (c .firsts);
+      seconds = range-part a e js (c .seconds);
+      as-long-j = part-length a e js is (c .as-long-j);
+      as-long-n = part-length a e ns is (c .as-long-n);
+    }
+
+-- ---- one level of tiles, of whatever size: the loop that hands on the columns from a up to its next cut
+
+-- the next cut rises, and lies within each column
+pub record Cut (a e i j n : ℕ) : Type 0 where
+  pub rises : a < e
+  pub in-i : e ≤ i
+  pub in-j : e ≤ j
+  pub in-n : e ≤ n
+
+pub cut-within : {a e size : ℕ} {is js : List ℤ} {ns : List Float} → 0 < size → a < length is → e ≡ min (a + size) (length is) → Columns is js ns → Cut a e (length is) (length js) (length ns)
+cut-within p h l c = let j = c .as-long-j in let n = c .as-long-n in record { rises = omega arith; in-i = omega arith; in-j = omega arith; in-n = omega arith }
+
+module _ {S : Type 0} (f : S → Row → S) (s : S) (is js : List ℤ) (ns : List Float) where
+  pub record Summed (x : S) (a : ℕ) : Type 0 where
+    pub within : a ≤ length is
+    pub upto : Upto f s (rows is js ns) x a
+
+  pub summed-none : Summed s 0
+  summed-none = record { within = omega arith; upto = upto-none f s (rows is js ns) }
+
+  pub summed-next : {x y : S} {a e : ℕ} → Summed x a → Cut a e (length is) (length js) (length ns) → y ≡ over f x (rows (part a e is) (part a e js) (part a e ns)) → Summed y e
+  summed-next {x} {y} {a} {e} v c q =
+      let h = c .rises in
+      record { within = c .in-i; upto = upto-next f s (rows is js ns) a e (omega arith) (v .upto) (q ∙ ap (over f x) (rows-part a e is js ns)) }
+
+  pub summed-all : {x : S} {a : ℕ} → Summed x a → length is ≤ a → x ≡ over f s (rows is js ns)
+  summed-all {x} {a} v h = upto-all f s (rows is js ns) a (le-trans (rows-length is js ns) h) (v .upto)

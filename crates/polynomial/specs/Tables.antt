@@ -1,9 +1,9 @@
--- A table by columns, its parts, and the tests that are made once over it: the range of its exponents, and where it is cut into tiles.
+-- A table by columns, its parts, and the test that is made once over it: the range of its exponents.
 use Prim.Native.Nat.{ℕ, _-_}
 use mathlib.Core.Path.{_≡_}
 use mathlib.Core.Bool.{Bool, true, false, _&&_}
 use mathlib.Core.List.{List, [], _∷_, map}
-use lib.Dec.{T, leb, eqb}
+use lib.Dec.{T}
 use lib.ListN.{length, take, drop}
 use lib.IntN.{ℤ}
 use lib.Signed.{leZ}
@@ -30,22 +30,12 @@ unfoldable pub allInRange : List ℤ → Bool
 allInRange [] = true
 allInRange (k ∷ ks) = inRange k && allInRange ks
 
--- the cuts between tiles: from 0 they rise to the table's length
-unfoldable pub cutsFrom : ℕ → ℕ → List ℕ → Bool
-cutsFrom n a [] = eqb a n
-cutsFrom n a (e ∷ es) = leb a e && leb e n && cutsFrom n e es
-
-abbrev pub cuts : ℕ → List ℕ → Bool
-cuts n [] = false
-cuts n (a ∷ es) = eqb a 0 && cutsFrom n a es
-
--- what the sums ask of a table: columns of one length, exponents in range, tiles that are the table
-pub record Table (is js : List ℤ) (ns : List Float) (steps : List ℕ) : Type 0 where
+-- what the sums ask of a table: columns of one length, exponents in range
+pub record Columns (is js : List ℤ) (ns : List Float) : Type 0 where
   pub firsts : T (allInRange is)
   pub seconds : T (allInRange js)
   pub as-long-j : length js ≡ length is
   pub as-long-n : length ns ≡ length is
-  pub tiled : T (cuts (length is) steps)
 
 -- ---- a table as a document prints it: exponents and exact decimals
 pub data Printed : Type 0 where

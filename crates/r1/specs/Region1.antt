@@ -48,6 +48,10 @@ derivatives π τ =
       jj = shared-jj (vi π) (vj τ) terms;
     }
 
+-- the shared sums' derivatives in 7.1 − π as derivatives in π
+abbrev pub turned : Sums → Sums
+turned s = record { zero = s .zero; i = neg (s .i); j = s .j; ii = s .ii; ij = neg (s .ij); jj = s .jj }
+
 -- ---- Table 3. The check values are Table 5's at 3 MPa and 300 K.
 -- v = π γ_π R T / p: 0.100215168e-2 m³/kg
 unfoldable pub pT2v : Float → Float → Float

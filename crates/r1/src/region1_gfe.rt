@@ -1,11 +1,21 @@
 // The dimensionless Gibbs free energy of region 1: its table and its derivatives.
 ghost use mathlib.Core.Path.{_≡_};
-ghost use Rattle.r1.specs.Region1.{gammaPi, gammaTau, gammaTauTau, derivatives};
+ghost use Rattle.r1.specs.Region1.{gammaPi, gammaTau, gammaTauTau, derivatives, turned as turnedOf};
+ghost use Rattle.polynomial.specs.Kinds.{only-0-j, only-i-j, only-i-ii-ij-jj};
+use polynomial::POLYS_0_J;
+use polynomial::POLYS_I_II_IJ_JJ;
+use polynomial::POLYS_I_J;
 use polynomial::Sums;
+use polynomial::divided;
+use polynomial::none;
+use polynomial::only_0_j;
+use polynomial::only_i_ii_ij_jj;
+use polynomial::only_i_j;
 use polynomial::poly_i_powi_steps;
 use polynomial::poly_j_powi_steps;
 use polynomial::poly_jj_powi_steps;
-use polynomial::polys_powi_steps;
+use polynomial::powers::powers;
+use polynomial::tiles;
 
 // Table 2 of the release, by columns.
 const I: [i32; 34] = [
@@ -123,38 +133,81 @@ const N: [f64; 34] = [
 pub fn gamma_pi_reg1(pi: f64, tau: f64) -> f64
     ensures { λ r. ⌜ r ≡ gammaPi pi tau ⌝ }
 {
-    let steps: [usize; 3] = [0, 17, 34];
-    -poly_i_powi_steps(7.1 - pi, tau - 1.222, &I, &J, &N, &steps)
+    let vi = 7.1 - pi;
+    let vj = tau - 1.222;
+    let xs = powers(vi);
+    let ys = powers(vj);
+    -poly_i_powi_steps(vi, vj, &xs, &ys, &I, &J, &N)
 }
 
 // The first derivative in tau.
 pub fn gamma_tau_reg1(pi: f64, tau: f64) -> f64
     ensures { λ r. ⌜ r ≡ gammaTau pi tau ⌝ }
 {
-    let steps: [usize; 3] = [0, 17, 34];
-    poly_j_powi_steps(7.1 - pi, tau - 1.222, &I, &J, &N, &steps)
+    let vi = 7.1 - pi;
+    let vj = tau - 1.222;
+    let xs = powers(vi);
+    let ys = powers(vj);
+    poly_j_powi_steps(vi, vj, &xs, &ys, &I, &J, &N)
 }
 
 // The second derivative in tau.
 pub fn gamma_tautau_reg1(pi: f64, tau: f64) -> f64
     ensures { λ r. ⌜ r ≡ gammaTauTau pi tau ⌝ }
 {
-    let steps: [usize; 4] = [0, 15, 26, 34];
-    poly_jj_powi_steps(7.1 - pi, tau - 1.222, &I, &J, &N, &steps)
+    let vi = 7.1 - pi;
+    let vj = tau - 1.222;
+    let xs = powers(vi);
+    let ys = powers(vj);
+    poly_jj_powi_steps(vi, vj, &xs, &ys, &I, &J, &N)
 }
 
-// All sums that share their powers, as derivatives: what polys_0_j_powi_reg1, polys_i_j_powi_reg1 and polys_i_ii_ij_jj_powi_reg1 give, together.
-pub fn polys_powi_reg1(pi: f64, tau: f64) -> Sums
-    ensures { λ r. ⌜ r ≡ derivatives pi tau ⌝ }
+// As derivatives in pi, which is taken from 7.1: those of odd order change sign.
+fn turned(s: Sums) -> Sums
+    ensures { λ r. ⌜ r ≡ turnedOf s ⌝ }
 {
-    let steps: [usize; 5] = [0, 11, 20, 28, 34];
-    let d = polys_powi_steps(7.1 - pi, tau - 1.222, &I, &J, &N, &steps);
     Sums {
-        zero: d.zero,
-        i: -d.i,
-        j: d.j,
-        ii: d.ii,
-        ij: -d.ij,
-        jj: d.jj,
+        zero: s.zero,
+        i: -s.i,
+        j: s.j,
+        ii: s.ii,
+        ij: -s.ij,
+        jj: s.jj,
     }
+}
+
+// The energy itself and its derivative in tau, which share their powers.
+pub fn polys_0_j_powi_reg1(pi: f64, tau: f64) -> Sums
+    ensures { λ r. ⌜ r ≡ only-0-j (derivatives pi tau) ⌝ }
+{
+    let vi = 7.1 - pi;
+    let vj = tau - 1.222;
+    let xs = powers(vi);
+    let ys = powers(vj);
+    let s = tiles(POLYS_0_J, none(), vi, vj, &xs, &ys, &I, &J, &N);
+    only_0_j(divided(s, vi, vj))
+}
+
+// The first derivatives in pi and in tau, which share their powers.
+pub fn polys_i_j_powi_reg1(pi: f64, tau: f64) -> Sums
+    ensures { λ r. ⌜ r ≡ only-i-j (derivatives pi tau) ⌝ }
+{
+    let vi = 7.1 - pi;
+    let vj = tau - 1.222;
+    let xs = powers(vi);
+    let ys = powers(vj);
+    let s = tiles(POLYS_I_J, none(), vi, vj, &xs, &ys, &I, &J, &N);
+    only_i_j(turned(divided(s, vi, vj)))
+}
+
+// The derivatives in pi, twice in pi, in both and twice in tau, which share their powers.
+pub fn polys_i_ii_ij_jj_powi_reg1(pi: f64, tau: f64) -> Sums
+    ensures { λ r. ⌜ r ≡ only-i-ii-ij-jj (derivatives pi tau) ⌝ }
+{
+    let vi = 7.1 - pi;
+    let vj = tau - 1.222;
+    let xs = powers(vi);
+    let ys = powers(vj);
+    let s = tiles(POLYS_I_II_IJ_JJ, none(), vi, vj, &xs, &ys, &I, &J, &N);
+    only_i_ii_ij_jj(turned(divided(s, vi, vj)))
 }

@@ -4,7 +4,9 @@ ghost use Rattle.r1.specs.Region1.{pT2v, pT2u, pT2s, pT2h, pT2cp, pT2cv,
 use crate::region1_gfe::gamma_pi_reg1;
 use crate::region1_gfe::gamma_tau_reg1;
 use crate::region1_gfe::gamma_tautau_reg1;
-use crate::region1_gfe::polys_powi_reg1;
+use crate::region1_gfe::polys_0_j_powi_reg1;
+use crate::region1_gfe::polys_i_ii_ij_jj_powi_reg1;
+use crate::region1_gfe::polys_i_j_powi_reg1;
 use common::constant::RGAS_WATER;
 use float::root::sqrt;
 
@@ -27,7 +29,7 @@ pub fn pT2u_reg1(p: f64, T: f64) -> f64
 {
     let pi = p / R1PSTAR;
     let tau = R1TSTAR / T;
-    let d = polys_powi_reg1(pi, tau);
+    let d = polys_i_j_powi_reg1(pi, tau);
     RGAS_WATER * T * (tau * d.j - pi * d.i)
 }
 
@@ -37,7 +39,7 @@ pub fn pT2s_reg1(p: f64, T: f64) -> f64
 {
     let tau = R1TSTAR / T;
     let pi = p / R1PSTAR;
-    let d = polys_powi_reg1(pi, tau);
+    let d = polys_0_j_powi_reg1(pi, tau);
     RGAS_WATER * (tau * d.j - d.zero)
 }
 
@@ -65,7 +67,7 @@ pub fn pT2cv_reg1(p: f64, T: f64) -> f64
 {
     let tau = R1TSTAR / T;
     let pi = p / R1PSTAR;
-    let d = polys_powi_reg1(pi, tau);
+    let d = polys_i_ii_ij_jj_powi_reg1(pi, tau);
     let a = -tau * tau * d.jj;
     let b = d.i - tau * d.ij;
     RGAS_WATER * (a + b * b / d.ii)
@@ -77,7 +79,7 @@ pub fn pT2w_reg1(p: f64, T: f64) -> f64
 {
     let tau = R1TSTAR / T;
     let pi = p / R1PSTAR;
-    let d = polys_powi_reg1(pi, tau);
+    let d = polys_i_ii_ij_jj_powi_reg1(pi, tau);
     let a = d.i - tau * d.ij;
     let b = a * a / (tau * tau * d.jj) - d.ii;
     let temp = 1000.0 * RGAS_WATER * T / b;

@@ -1,15 +1,25 @@
 // The dimensionless Gibbs free energy of region 2: the ideal-gas part and the residual part, their tables and derivatives.
 ghost use mathlib.Core.Path.{_≡_};
 ghost use Rattle.r2.specs.Region2.{gamma0Pi, gamma0Tau, gamma0TauTau, gammarPi, gammarTau, gammarTauTau, residual, ideal};
+ghost use Rattle.polynomial.specs.Kinds.{only-0-j, only-i-j, only-i-ii-ij-jj};
 use float::log::ln;
-use polynomial::Kind;
-use polynomial::Order;
+use polynomial::ALONE_ONCE;
+use polynomial::ALONE_SHARED;
+use polynomial::ALONE_TWICE;
+use polynomial::POLYS_0_J;
+use polynomial::POLYS_I_II_IJ_JJ;
+use polynomial::POLYS_I_J;
 use polynomial::Sums;
+use polynomial::divided;
 use polynomial::none;
+use polynomial::only_0_j;
+use polynomial::only_i_ii_ij_jj;
+use polynomial::only_i_j;
 use polynomial::poly_i_powi_steps;
 use polynomial::poly_j_powi_steps;
 use polynomial::poly_jj_powi_steps;
-use polynomial::polys_powi_steps;
+use polynomial::powers::powers;
+use polynomial::tile;
 use polynomial::tiles;
 
 // Table 10 of the release, by columns.
@@ -183,17 +193,8 @@ pub fn gamma0_pi_reg2(pi: f64) -> f64
 pub fn gamma0_tau_reg2(tau: f64) -> f64
     ensures { λ r. ⌜ r ≡ gamma0Tau tau ⌝ }
 {
-    let steps: [usize; 2] = [0, 9];
-    let s = tiles(
-        Kind::Alone(Order::Once),
-        none(),
-        tau,
-        tau,
-        &J0,
-        &J0,
-        &N0,
-        &steps,
-    );
+    let ys = powers(tau);
+    let s = tile(ALONE_ONCE, none(), tau, tau, &ys, &ys, &J0, &J0, &N0);
     s.zero
 }
 
@@ -201,17 +202,8 @@ pub fn gamma0_tau_reg2(tau: f64) -> f64
 pub fn gamma0_tautau_reg2(tau: f64) -> f64
     ensures { λ r. ⌜ r ≡ gamma0TauTau tau ⌝ }
 {
-    let steps: [usize; 2] = [0, 9];
-    let s = tiles(
-        Kind::Alone(Order::Twice),
-        none(),
-        tau,
-        tau,
-        &J0,
-        &J0,
-        &N0,
-        &steps,
-    );
+    let ys = powers(tau);
+    let s = tile(ALONE_TWICE, none(), tau, tau, &ys, &ys, &J0, &J0, &N0);
     s.zero
 }
 
@@ -219,7 +211,6 @@ pub fn gamma0_tautau_reg2(tau: f64) -> f64
 pub fn gamma0_shared_reg2(pi: f64, tau: f64) -> Ideal
     ensures { λ r. ⌜ r ≡ ideal pi tau ⌝ }
 {
-    let steps: [usize; 2] = [0, 9];
     let start = Sums {
         zero: ln(pi),
         i: 0.0,
@@ -228,7 +219,8 @@ pub fn gamma0_shared_reg2(pi: f64, tau: f64) -> Ideal
         ij: 0.0,
         jj: 0.0,
     };
-    let s = tiles(Kind::AloneShared, start, tau, tau, &J0, &J0, &N0, &steps);
+    let ys = powers(tau);
+    let s = tile(ALONE_SHARED, start, tau, tau, &ys, &ys, &J0, &J0, &N0);
     Ideal {
         part: s.zero,
         derived: s.j / tau,
@@ -239,30 +231,61 @@ pub fn gamma0_shared_reg2(pi: f64, tau: f64) -> Ideal
 pub fn gammar_pi_reg2(pi: f64, tau: f64) -> f64
     ensures { λ r. ⌜ r ≡ gammarPi pi tau ⌝ }
 {
-    let steps: [usize; 4] = [0, 16, 32, 43];
-    poly_i_powi_steps(pi, tau - 0.5, &I, &J, &N, &steps)
+    let vj = tau - 0.5;
+    let xs = powers(pi);
+    let ys = powers(vj);
+    poly_i_powi_steps(pi, vj, &xs, &ys, &I, &J, &N)
 }
 
 // The residual part's first derivative in tau.
 pub fn gammar_tau_reg2(pi: f64, tau: f64) -> f64
     ensures { λ r. ⌜ r ≡ gammarTau pi tau ⌝ }
 {
-    let steps: [usize; 4] = [0, 13, 26, 43];
-    poly_j_powi_steps(pi, tau - 0.5, &I, &J, &N, &steps)
+    let vj = tau - 0.5;
+    let xs = powers(pi);
+    let ys = powers(vj);
+    poly_j_powi_steps(pi, vj, &xs, &ys, &I, &J, &N)
 }
 
 // The residual part's second derivative in tau.
 pub fn gammar_tautau_reg2(pi: f64, tau: f64) -> f64
     ensures { λ r. ⌜ r ≡ gammarTauTau pi tau ⌝ }
 {
-    let steps: [usize; 4] = [0, 13, 26, 43];
-    poly_jj_powi_steps(pi, tau - 0.5, &I, &J, &N, &steps)
+    let vj = tau - 0.5;
+    let xs = powers(pi);
+    let ys = powers(vj);
+    poly_jj_powi_steps(pi, vj, &xs, &ys, &I, &J, &N)
 }
 
-// All residual sums that share their powers: what polys_0_j_powi_reg2, polys_i_j_powi_reg2 and polys_i_ii_ij_jj_powi_reg2 give, together.
-pub fn polys_powi_reg2(pi: f64, tau: f64) -> Sums
-    ensures { λ r. ⌜ r ≡ residual pi tau ⌝ }
+// The residual part itself and its derivative in tau, which share their powers.
+pub fn polys_0_j_powi_reg2(pi: f64, tau: f64) -> Sums
+    ensures { λ r. ⌜ r ≡ only-0-j (residual pi tau) ⌝ }
 {
-    let steps: [usize; 5] = [0, 11, 22, 33, 43];
-    polys_powi_steps(pi, tau - 0.5, &I, &J, &N, &steps)
+    let vj = tau - 0.5;
+    let xs = powers(pi);
+    let ys = powers(vj);
+    let s = tiles(POLYS_0_J, none(), pi, vj, &xs, &ys, &I, &J, &N);
+    only_0_j(divided(s, pi, vj))
+}
+
+// The residual part's first derivatives in pi and in tau, which share their powers.
+pub fn polys_i_j_powi_reg2(pi: f64, tau: f64) -> Sums
+    ensures { λ r. ⌜ r ≡ only-i-j (residual pi tau) ⌝ }
+{
+    let vj = tau - 0.5;
+    let xs = powers(pi);
+    let ys = powers(vj);
+    let s = tiles(POLYS_I_J, none(), pi, vj, &xs, &ys, &I, &J, &N);
+    only_i_j(divided(s, pi, vj))
+}
+
+// The residual part's derivatives in pi, twice in pi, in both and twice in tau, which share their powers.
+pub fn polys_i_ii_ij_jj_powi_reg2(pi: f64, tau: f64) -> Sums
+    ensures { λ r. ⌜ r ≡ only-i-ii-ij-jj (residual pi tau) ⌝ }
+{
+    let vj = tau - 0.5;
+    let xs = powers(pi);
+    let ys = powers(vj);
+    let s = tiles(POLYS_I_II_IJ_JJ, none(), pi, vj, &xs, &ys, &I, &J, &N);
+    only_i_ii_ij_jj(divided(s, pi, vj))
 }

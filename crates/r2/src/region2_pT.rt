@@ -8,7 +8,9 @@ use crate::region2_gfe::gamma0_tautau_reg2;
 use crate::region2_gfe::gammar_pi_reg2;
 use crate::region2_gfe::gammar_tau_reg2;
 use crate::region2_gfe::gammar_tautau_reg2;
-use crate::region2_gfe::polys_powi_reg2;
+use crate::region2_gfe::polys_0_j_powi_reg2;
+use crate::region2_gfe::polys_i_ii_ij_jj_powi_reg2;
+use crate::region2_gfe::polys_i_j_powi_reg2;
 use common::constant::RGAS_WATER;
 use float::root::sqrt;
 
@@ -28,7 +30,7 @@ pub fn pT2u_reg2(p: f64, T: f64) -> f64
     ensures { λ r. ⌜ r ≡ pT2u p T ⌝ }
 {
     let tau = R2TSTAR / T;
-    let r = polys_powi_reg2(p, tau);
+    let r = polys_i_j_powi_reg2(p, tau);
     RGAS_WATER * T * (tau * (gamma0_tau_reg2(tau) + r.j) - p * (gamma0_pi_reg2(p) + r.i))
 }
 
@@ -38,7 +40,7 @@ pub fn pT2s_reg2(p: f64, T: f64) -> f64
 {
     let tau = R2TSTAR / T;
     let g = gamma0_shared_reg2(p, tau);
-    let r = polys_powi_reg2(p, tau);
+    let r = polys_0_j_powi_reg2(p, tau);
     RGAS_WATER * (tau * (g.derived + r.j) - (g.part + r.zero))
 }
 
@@ -65,7 +67,7 @@ pub fn pT2cv_reg2(p: f64, T: f64) -> f64
 {
     let tau = R2TSTAR / T;
     let gamma0_tautau = gamma0_tautau_reg2(tau);
-    let r = polys_powi_reg2(p, tau);
+    let r = polys_i_ii_ij_jj_powi_reg2(p, tau);
     let a = 1.0 + p * (r.i - tau * r.ij);
     let b = a * a / (1.0 - p * p * r.ii);
     let c = -tau * tau * (gamma0_tautau + r.jj);
@@ -78,7 +80,7 @@ pub fn pT2w_reg2(p: f64, T: f64) -> f64
 {
     let tau = R2TSTAR / T;
     let gamma0_tautau = gamma0_tautau_reg2(tau);
-    let r = polys_powi_reg2(p, tau);
+    let r = polys_i_ii_ij_jj_powi_reg2(p, tau);
     let a = p * r.i;
     let r1 = 1000.0 * RGAS_WATER * T * (1.0 + 2.0 * p * r.i + a * a);
     let b = 1.0 + p * r.i - tau * p * r.ij;

@@ -2,27 +2,24 @@
 use Prim.Native.Nat.{_-_}
 use native.Mathlib.Omega.{arith}
 use lib.IntN.{pos}
-use lib.ListN.{getD}
+use lib.ListN.{length, getD}
 use denote.Ref.{now}
 use mir.Syntax.{w32}
 use mir.Val.{SFits}
 use mir.Facts.{toZ-ofZ}
-use Rattle.polynomial.specs.Sums.{step}
+use Rattle.polynomial.specs.Kinds.{stepOf}
 use Rattle.polynomial.proofs.Rows.{Left, starts, goes-on, ends, range-at}
 use Rattle.polynomial.proofs.tile.Statement.{statement}
 use Rattle.polynomial.proofs.tile.Tie as tie
 
 abbrev Inv-loop : tie.InvT-loop
-Inv-loop kind vi vj is js ns n sums₀ k₀ sums k = Left (step kind vi vj) sums₀ is js ns n sums k
+Inv-loop kind vi vj xs ys is js ns n sums₀ k₀ sums k = Left (stepOf kind vi vj) sums₀ is js ns sums k
 
 abbrev μ-loop : tie.MeasureT-loop
-μ-loop kind vi vj is js ns n sums₀ k₀ sums k = n - k
-
-least-requires : tie.Need-least-requires Inv-loop μ-loop
-least-requires c κs = tt
+μ-loop kind vi vj xs ys is js ns n sums₀ k₀ sums k = length is - k
 
 loop-holds : tie.Need-loop-holds Inv-loop μ-loop
-loop-holds c = starts _ _ _ _ _ _ (c .least .ensures)
+loop-holds c = starts _ _ _ _ _
 
 mul-with-row : tie.Need-mul-with-row Inv-loop μ-loop
 mul-with-row c = omega arith
@@ -45,11 +42,11 @@ shared-slice-read-with-row c = omega arith
 with-row-requires : tie.Need-with-row-requires Inv-loop μ-loop
 with-row-requires c κs =
     let at = c .before .before .before .before in
-    let s = at .before .before .before in
+    let s = at .before .before in
     let fi : SFits w32 (getD (now (s .args .is)) (at .loop .k) (pos 0)) = record { sfits = c .before .before .with-row-arg .given } in
     let fj : SFits w32 (getD (now (s .args .js)) (at .loop .k) (pos 0)) = record { sfits = c .before .with-row-arg2 .given } in
     rw (toZ-ofZ fi, toZ-ofZ fj)
-    (range-at (now (s .args .is)) (at .loop .k) (pos 0) (omega arith) (s .pre .0), range-at (now (s .args .js)) (at .loop .k) (pos 0) (omega arith) (s .pre .1))
+    (range-at (now (s .args .is)) (at .loop .k) (pos 0) (omega arith) (s .pre .0 .firsts), range-at (now (s .args .js)) (at .loop .k) (pos 0) (omega arith) (s .pre .0 .seconds), s .pre .1, s .pre .2)
 
 add-k : tie.Need-add-k Inv-loop μ-loop
 add-k c = omega arith
@@ -60,14 +57,14 @@ loop-less c = omega arith
 loop-again : tie.Need-loop-again Inv-loop μ-loop
 loop-again c =
     let at = c .before .before .before .before .before in
-    let a = at .before .before .before .args in
+    let a = at .before .before .args in
     let fi : SFits w32 (getD (now (a .is)) (at .loop .k) (pos 0)) = record { sfits = c .before .before .before .with-row-arg .given } in
     let fj : SFits w32 (getD (now (a .js)) (at .loop .k) (pos 0)) = record { sfits = c .before .before .with-row-arg2 .given } in
-    goes-on _ _ _ _ _ _ (at .loop .inv) (c .before .before .before .before .loop-test .taken)
+    goes-on _ _ _ _ _ (at .before .before .pre .0) (at .loop .inv) (c .before .before .before .before .loop-test .taken)
     (rw (toZ-ofZ fi, toZ-ofZ fj) at (c .with-row .ensures))
 
 returns : tie.Need-returns Inv-loop μ-loop
-returns c = ends _ _ _ _ _ _ (c .before .loop .inv) (c .loop-test .left)
+returns c = ends _ _ _ _ _ (c .before .loop .inv) (c .loop-test .left)
 
 pub tile-spec : {M : Type 1} → statement M
 tile-spec =
@@ -75,7 +72,6 @@ tile-spec =
     (tie.spec
     Inv-loop
     μ-loop
-    least-requires
     loop-holds
     mul-with-row
     shared-slice-copy-out-with-row

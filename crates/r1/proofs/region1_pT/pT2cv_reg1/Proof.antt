@@ -6,12 +6,12 @@ use borrow.Author.Needs.{needs}
 use Rattle.r1.proofs.region1_pT.pT2cv_reg1.Statement.{statement}
 use Rattle.r1.proofs.region1_pT.pT2cv_reg1.Tie as tie
 
-polys-powi-reg1-requires : tie.Need-polys-powi-reg1-requires
-polys-powi-reg1-requires c κs = search needs
+polys-i-ii-ij-jj-powi-reg1-requires : tie.Need-polys-i-ii-ij-jj-powi-reg1-requires
+polys-i-ii-ij-jj-powi-reg1-requires c κs = search needs
 
 returns : tie.Need-returns
 unfolding pT2cv rounded ofBits
-returns c = rw (c .before .before .before .before .polys-powi-reg1 .ensures)
+returns c = rw (c .before .before .before .before .polys-i-ii-ij-jj-powi-reg1 .ensures)
 
 pub pT2cv-reg1-spec : {M : Type 1} → statement M
-pT2cv-reg1-spec = tie.close (tie.spec polys-powi-reg1-requires returns)
+pT2cv-reg1-spec = tie.close (tie.spec polys-i-ii-ij-jj-powi-reg1-requires returns)

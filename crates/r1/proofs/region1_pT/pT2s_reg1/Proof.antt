@@ -6,12 +6,12 @@ use borrow.Author.Needs.{needs}
 use Rattle.r1.proofs.region1_pT.pT2s_reg1.Statement.{statement}
 use Rattle.r1.proofs.region1_pT.pT2s_reg1.Tie as tie
 
-polys-powi-reg1-requires : tie.Need-polys-powi-reg1-requires
-polys-powi-reg1-requires c κs = search needs
+polys-0-j-powi-reg1-requires : tie.Need-polys-0-j-powi-reg1-requires
+polys-0-j-powi-reg1-requires c κs = search needs
 
 returns : tie.Need-returns
 unfolding pT2s rounded ofBits
-returns c = rw (c .before .before .polys-powi-reg1 .ensures)
+returns c = rw (c .before .before .polys-0-j-powi-reg1 .ensures)
 
 pub pT2s-reg1-spec : {M : Type 1} → statement M
-pT2s-reg1-spec = tie.close (tie.spec polys-powi-reg1-requires returns)
+pT2s-reg1-spec = tie.close (tie.spec polys-0-j-powi-reg1-requires returns)

@@ -6,15 +6,15 @@ use borrow.Author.Needs.{needs}
 use Rattle.r1.proofs.region1_pT.pT2w_reg1.Statement.{statement}
 use Rattle.r1.proofs.region1_pT.pT2w_reg1.Tie as tie
 
-polys-powi-reg1-requires : tie.Need-polys-powi-reg1-requires
-polys-powi-reg1-requires c κs = search needs
+polys-i-ii-ij-jj-powi-reg1-requires : tie.Need-polys-i-ii-ij-jj-powi-reg1-requires
+polys-i-ii-ij-jj-powi-reg1-requires c κs = search needs
 
 sqrt-requires : tie.Need-sqrt-requires
 sqrt-requires c κs = search needs
 
 returns : tie.Need-returns
 unfolding pT2w rounded ofBits
-returns c = rw (c .before .sqrt .ensures, c .before .before .before .before .before .before .polys-powi-reg1 .ensures)
+returns c = rw (c .before .sqrt .ensures, c .before .before .before .before .before .before .polys-i-ii-ij-jj-powi-reg1 .ensures)
 
 pub pT2w-reg1-spec : {M : Type 1} → statement M
-pT2w-reg1-spec = tie.close (tie.spec polys-powi-reg1-requires sqrt-requires returns)
+pT2w-reg1-spec = tie.close (tie.spec polys-i-ii-ij-jj-powi-reg1-requires sqrt-requires returns)

@@ -2,7 +2,8 @@
 use mathlib.Core.Path.{refl}
 use lib.Ieee.{ofBits}
 use Rattle.float.specs.Decimal.{rounded}
-use Rattle.polynomial.specs.Tables.{rows, allInRange, cutsFrom}
+use Rattle.polynomial.specs.Kinds.{stepOf}
+use Rattle.polynomial.specs.Tables.{rows, allInRange}
 use Rattle.r2.specs.Table10.{table}
 use mathlib.Core.Path.{_≡_}
 use Rattle.float.specs.Log.{logarithm}
@@ -18,30 +19,32 @@ use Rattle.r2.proofs.region2_gfe.gamma0_shared_reg2.Tie as tie
 ln-requires : tie.Need-ln-requires
 ln-requires c κs = search needs
 
-slice-aggregate-tiles : tie.Need-slice-aggregate-tiles
-slice-aggregate-tiles c = search needs
+powers-requires : tie.Need-powers-requires
+powers-requires c κs = search needs
 
-slice-aggregate-tiles-2 : tie.Need-slice-aggregate-tiles-2
-slice-aggregate-tiles-2 c = search needs
+slice-aggregate-tile : tie.Need-slice-aggregate-tile
+slice-aggregate-tile c = search needs
 
-slice-aggregate-tiles-3 : tie.Need-slice-aggregate-tiles-3
-slice-aggregate-tiles-3 c = search needs
+slice-aggregate-tile-2 : tie.Need-slice-aggregate-tile-2
+slice-aggregate-tile-2 c = search needs
 
-slice-aggregate-tiles-4 : tie.Need-slice-aggregate-tiles-4
-slice-aggregate-tiles-4 c = search needs
+slice-aggregate-tile-3 : tie.Need-slice-aggregate-tile-3
+slice-aggregate-tile-3 c = search needs
 
-tiles-requires : tie.Need-tiles-requires
-unfolding allInRange cutsFrom
-tiles-requires c κs = record { firsts = tt; seconds = tt; as-long-j = refl; as-long-n = refl; tiled = tt }
+tile-requires : tie.Need-tile-requires
+unfolding allInRange
+tile-requires c κs =
+    let w = c .before .before .before .before .before in
+    (record { firsts = tt; seconds = tt; as-long-j = refl; as-long-n = refl }, w .powers .ensures, w .powers .ensures)
 
 returns : tie.Need-returns
-unfolding ideal table rows rounded ofBits
+unfolding ideal table rows rounded ofBits stepOf
 returns c =
     let t = c .before in
-    let l = t .before .before .before .before .before in
+    let l = t .before .before .before .before .before .before .before in
     let a = l .before .args in
     let s : Sums = record { zero = logarithm (a .pi); i = none .i; j = none .j; ii = none .ii; ij = none .ij; jj = none .jj } in
-    let sums : t .tiles .result ≡ over (step AloneShared (a .tau) (a .tau)) s idealTerms = rw (l .ln .ensures) at (t .tiles .ensures) in
+    let sums : t .tile .result ≡ over (step AloneShared (a .tau) (a .tau)) s idealTerms = rw (l .ln .ensures) at (t .tile .ensures) in
     let own = alone-shared-sum (a .tau) (a .tau) s idealTerms in
     rw (sums, own .0, own .1)
 
@@ -50,9 +53,9 @@ gamma0-shared-reg2-spec =
     tie.close
     (tie.spec
     ln-requires
-    slice-aggregate-tiles
-    slice-aggregate-tiles-2
-    slice-aggregate-tiles-3
-    slice-aggregate-tiles-4
-    tiles-requires
+    powers-requires
+    slice-aggregate-tile
+    slice-aggregate-tile-2
+    slice-aggregate-tile-3
+    tile-requires
     returns)

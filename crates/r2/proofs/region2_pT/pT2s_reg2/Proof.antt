@@ -9,12 +9,12 @@ use Rattle.r2.proofs.region2_pT.pT2s_reg2.Tie as tie
 gamma0-shared-reg2-requires : tie.Need-gamma0-shared-reg2-requires
 gamma0-shared-reg2-requires c κs = search needs
 
-polys-powi-reg2-requires : tie.Need-polys-powi-reg2-requires
-polys-powi-reg2-requires c κs = search needs
+polys-0-j-powi-reg2-requires : tie.Need-polys-0-j-powi-reg2-requires
+polys-0-j-powi-reg2-requires c κs = search needs
 
 returns : tie.Need-returns
 unfolding pT2s rounded ofBits
-returns c = rw (c .before .before .before .before .polys-powi-reg2 .ensures, c .before .before .before .before .before .gamma0-shared-reg2 .ensures)
+returns c = rw (c .before .before .before .before .polys-0-j-powi-reg2 .ensures, c .before .before .before .before .before .gamma0-shared-reg2 .ensures)
 
 pub pT2s-reg2-spec : {M : Type 1} → statement M
-pT2s-reg2-spec = tie.close (tie.spec gamma0-shared-reg2-requires polys-powi-reg2-requires returns)
+pT2s-reg2-spec = tie.close (tie.spec gamma0-shared-reg2-requires polys-0-j-powi-reg2-requires returns)

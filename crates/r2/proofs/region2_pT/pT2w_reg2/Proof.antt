@@ -9,16 +9,16 @@ use Rattle.r2.proofs.region2_pT.pT2w_reg2.Tie as tie
 gamma0-tautau-reg2-requires : tie.Need-gamma0-tautau-reg2-requires
 gamma0-tautau-reg2-requires c κs = search needs
 
-polys-powi-reg2-requires : tie.Need-polys-powi-reg2-requires
-polys-powi-reg2-requires c κs = search needs
+polys-i-ii-ij-jj-powi-reg2-requires : tie.Need-polys-i-ii-ij-jj-powi-reg2-requires
+polys-i-ii-ij-jj-powi-reg2-requires c κs = search needs
 
 sqrt-requires : tie.Need-sqrt-requires
 sqrt-requires c κs = search needs
 
 returns : tie.Need-returns
 unfolding pT2w rounded ofBits
-returns c = rw (c .sqrt .ensures, c .before .before .before .before .before .before .before .polys-powi-reg2 .ensures, c .before .before .before .before .before .before .before .before .gamma0-tautau-reg2 .ensures)
+returns c = rw (c .sqrt .ensures, c .before .before .before .before .before .before .before .polys-i-ii-ij-jj-powi-reg2 .ensures, c .before .before .before .before .before .before .before .before .gamma0-tautau-reg2 .ensures)
 
 pub pT2w-reg2-spec : {M : Type 1} → statement M
 pT2w-reg2-spec =
-    tie.close (tie.spec gamma0-tautau-reg2-requires polys-powi-reg2-requires sqrt-requires returns)
+    tie.close (tie.spec gamma0-tautau-reg2-requires polys-i-ii-ij-jj-powi-reg2-requires sqrt-requires returns)
