@@ -8,6 +8,8 @@ mod desk;
 #[cfg(feature = "original")]
 mod differences;
 #[cfg(feature = "original")]
+mod door;
+#[cfg(feature = "original")]
 mod doubles;
 mod draw;
 #[cfg(feature = "original")]

@@ -73,7 +73,7 @@ fn barred_head(what: &str) {
 }
 
 #[cfg(feature = "original")]
-const TABLES: &[fn(&mut Bars)] = &[asked, |_| helpers(), |_| calls(), properties, saturation_line, searches, |_| crate::bound::table(), |_| crate::many::table()];
+const TABLES: &[fn(&mut Bars)] = &[asked, |_| crate::door::table(), |_| helpers(), |_| calls(), properties, saturation_line, searches, |_| crate::bound::table(), |_| crate::many::table()];
 #[cfg(not(feature = "original"))]
 const TABLES: &[fn(&mut Bars)] = &[|_| helpers(), |_| calls()];
 

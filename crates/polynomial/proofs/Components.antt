@@ -7,7 +7,7 @@ use lib.Ieee.{Float}
 use Rattle.exact.specs.Operations.{_⊕_}
 use Rattle.polynomial.specs.Terms.{Row, total, totalFrom, term, alone, alone-j, items, items-i, items-j, items-ii, items-ij, items-jj, shared-0, shared-i, shared-j, shared-ii, shared-ij, shared-jj}
 use Rattle.polynomial.specs.Sums.{step, over, none, shared}
-use Rattle.polynomial.specs.Kinds.{only-0-j, only-i-j, only-i-ii-ij-jj, divided, of-shared, stepOf, termOf}
+use Rattle.polynomial.specs.Kinds.{only-0-j, only-i-j, only-i-ii-ij-jj, divided, of-shared, stepOf, termOf, POLY-IJ, POLYS-0-J, POLYS-I-J, POLYS-I-II-IJ-JJ}
 use Rattle.polynomial.specs.declared.Order.{Order}
 use Rattle.polynomial.specs.declared.Order.the-variants.{Not, Once, Twice}
 use Rattle.polynomial.specs.declared.Sums.{Sums}
@@ -59,20 +59,20 @@ module _ (vi vj : Float) (rs : List Row) where
       ∙ d (over (step Shared vi vj) none rs)
       ∙ ap only shared-sums
 
-  pub sums-0-j : only-0-j (divided vi vj (over (stepOf 6 vi vj) none rs)) ≡ only-0-j (shared vi vj rs)
+  pub sums-0-j : only-0-j (divided vi vj (over (stepOf POLYS-0-J vi vj) none rs)) ≡ only-0-j (shared vi vj rs)
   unfolding stepOf
   sums-0-j = read only-0-j (λ s r. refl) (λ s. refl) refl
 
-  pub sums-i-j : only-i-j (divided vi vj (over (stepOf 7 vi vj) none rs)) ≡ only-i-j (shared vi vj rs)
+  pub sums-i-j : only-i-j (divided vi vj (over (stepOf POLYS-I-J vi vj) none rs)) ≡ only-i-j (shared vi vj rs)
   unfolding stepOf
   sums-i-j = read only-i-j (λ s r. refl) (λ s. refl) refl
 
-  pub sums-i-ii-ij-jj : only-i-ii-ij-jj (divided vi vj (over (stepOf 8 vi vj) none rs)) ≡ only-i-ii-ij-jj (shared vi vj rs)
+  pub sums-i-ii-ij-jj : only-i-ii-ij-jj (divided vi vj (over (stepOf POLYS-I-II-IJ-JJ vi vj) none rs)) ≡ only-i-ii-ij-jj (shared vi vj rs)
   unfolding stepOf
   sums-i-ii-ij-jj = read only-i-ii-ij-jj (λ s r. refl) (λ s. refl) refl
 
-  -- ---- the kinds POLY to POLY_IJ
-  pub direct-sums : (kind : ℕ) → kind ≤ 5 → over (stepOf kind vi vj) none rs .zero ≡ total (termOf kind vi vj) rs
+  -- ---- the kinds up to POLY-IJ
+  pub direct-sums : (kind : ℕ) → kind ≤ POLY-IJ → over (stepOf kind vi vj) none rs .zero ≡ total (termOf kind vi vj) rs
   unfolding stepOf
   direct-sums zero h = direct-sum vi vj none rs Not Not
   direct-sums (suc zero) h = direct-sum vi vj none rs Once Not

@@ -26,7 +26,7 @@ only-i-ii-ij-jj s = record { zero = nought; i = s .i; j = nought; ii = s .ii; ij
 abbrev pub divided : Float → Float → Sums → Sums
 divided vi vj s = record { zero = s .zero; i = s .i ⊘ vi; j = s .j ⊘ vj; ii = s .ii ⊘ (vi ⊗ vi); ij = s .ij ⊘ (vi ⊗ vj); jj = s .jj ⊘ (vj ⊗ vj) }
 
--- ---- the kinds: a kind's number is its place, here and then in the list after it
+-- ---- the kinds: a kind's number is its place in `kinds`, and has a name in the code; those that a statement cites have it here too
 -- how often the power of vi and that of vj are derived: 0 POLY, 1 POLY_I, 2 POLY_II, 3 POLY_J, 4 POLY_JJ, 5 POLY_IJ
 abbrev pub derived : List (Order × Order)
 derived = (Not, Not) ∷ ((Once, Not) ∷ ((Twice, Not) ∷ ((Not, Once) ∷ ((Not, Twice) ∷ ((Once, Once) ∷ [])))))
@@ -41,6 +41,18 @@ of-shared only vi vj s r = only (step Shared vi vj s r)
 abbrev pub others : List Step
 others = of-shared only-0-j ∷ (of-shared only-i-j ∷ (of-shared only-i-ii-ij-jj ∷ (step (Alone Once) ∷ (step (Alone Twice) ∷ (step AloneShared ∷ [])))))
 
+abbrev pub POLY-IJ : ℕ
+POLY-IJ = 5
+
+abbrev pub POLYS-0-J : ℕ
+POLYS-0-J = 6
+
+abbrev pub POLYS-I-J : ℕ
+POLYS-I-J = 7
+
+abbrev pub POLYS-I-II-IJ-JJ : ℕ
+POLYS-I-II-IJ-JJ = 8
+
 abbrev pub kinds : List Step
 kinds = map (λ (o : Order × Order). step (Direct (o .0) (o .1))) derived ++ others
 
@@ -51,6 +63,6 @@ nothing vi vj s r = s
 unfoldable pub stepOf : ℕ → Step
 stepOf kind = getD kinds kind nothing
 
--- the terms of the first list's kinds
+-- the terms of the kinds up to POLY-IJ
 abbrev pub termOf : ℕ → Float → Float → Row → Float
 termOf kind = term (getD derived kind (Not, Not) .0) (getD derived kind (Not, Not) .1)

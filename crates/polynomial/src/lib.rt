@@ -7,7 +7,7 @@ ghost use Rattle.polynomial.specs.Terms.{factored, row, total, poly, pol
 ghost use Rattle.polynomial.specs.Sums.{step, over, none as noneOf, first as firstOf};
 ghost use Rattle.polynomial.specs.Tables.{rows, inRange, Columns};
 ghost use Rattle.polynomial.specs.Powers.{powers};
-ghost use Rattle.polynomial.specs.Kinds.{stepOf, termOf, only-0-j, only-i-j, only-i-ii-ij-jj, divided as dividedOf};
+ghost use Rattle.polynomial.specs.Kinds.{stepOf, termOf, POLY-IJ, only-0-j, only-i-j, only-i-ii-ij-jj, divided as dividedOf};
 use crate::powers::power;
 
 pub mod powers;
@@ -359,7 +359,7 @@ fn direct(
     js: &[i32],
     ns: &[f64],
 ) -> f64
-    requires { ⌜ (kind ≤ 5) × Columns (now is) (now js) (now ns) × (now xs ≡ powers vi) × (now ys ≡ powers vj) ⌝ }
+    requires { ⌜ (kind ≤ POLY-IJ) × Columns (now is) (now js) (now ns) × (now xs ≡ powers vi) × (now ys ≡ powers vj) ⌝ }
     ensures { λ r. ⌜ r ≡ total (termOf kind vi vj) (rows (now (is .entry)) (now (js .entry)) (now (ns .entry))) ⌝ }
 {
     let s = tiles(kind, none(), vi, vj, xs, ys, is, js, ns);

@@ -9,6 +9,8 @@ use Rattle.common.specs.declared.boundaries.Boundary.the-variants.{At as Answer
 use Rattle.r4.specs.Saturation.{saturationPressure, saturationPressureAt, saturationTemperatureAt}
 use Rattle.r4.specs.declared.ends.End.{End}
 use Rattle.r4.specs.declared.ends.End.the-variants.{At, Missing}
+use Rattle.r4.specs.declared.ends.Beside.{Beside}
+use Rattle.r4.specs.declared.ends.Beside.the-variants.{NoEnd, Below, NotBelow}
 
 -- whether it is missing, and else where it lies
 abbrev pub missing : End → Bool
@@ -18,6 +20,11 @@ missing Missing = true
 abbrev pub place : End → Float
 place (At x) = x
 place Missing = nan
+
+-- how a pressure lies to it
+abbrev pub beside : Float → End → Beside
+beside p (At x) = cond (lt p x) Below NotBelow
+beside p Missing = NoEnd
 
 -- the same constant, whatever the fixed input
 abbrev pub always : Float → Float → End

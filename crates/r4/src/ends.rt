@@ -1,9 +1,10 @@
 // The ends of searches that are computed from the fixed input: a constant, or read off the saturation line or B23.
 ghost use mathlib.Core.Path.{_≡_};
-ghost use Rattle.r4.specs.Ends.{readOff, p-lowest-1, T-most-1, T-least-2, p-most-2};
+ghost use Rattle.r4.specs.Ends.{readOff, beside, p-lowest-1, T-most-1, T-least-2, p-most-2};
 use crate::region4_sat_pT::T_saturation;
 use crate::region4_sat_pT::p_saturation;
 use crate::region4_sat_pT::p_saturation_formula;
+use crate::region4_sat_pT::surely_above;
 use common::boundaries::B23_T2p;
 use common::boundaries::B23_p2T;
 use common::boundaries::Boundary;
@@ -18,6 +19,13 @@ use common::constant::T_MIN;
 pub enum End {
     At(f64),
     Missing,
+}
+
+// How a pressure lies to an end.
+pub enum Beside {
+    NoEnd,
+    Below,
+    NotBelow,
 }
 
 // What a line answers, taken apart before it becomes an end.
@@ -35,6 +43,23 @@ pub fn T2pmin_reg1(T: f64) -> End
     ensures { λ r. ⌜ r ≡ p-lowest-1 T ⌝ }
 {
     read_off(p_saturation(T))
+}
+
+// How p lies to the lowest pressure of region 1 at T. A bound tells it but near the line, where the line itself is asked.
+pub fn beside_pmin_reg1(p: f64, T: f64) -> Beside
+    ensures { λ r. ⌜ r ≡ beside p (p-lowest-1 T) ⌝ }
+{
+    if surely_above(p, T) {
+        return Beside::NotBelow;
+    }
+    let lowest = T2pmin_reg1(T);
+    let End::At(least) = lowest else {
+        return Beside::NoEnd;
+    };
+    if p < least {
+        return Beside::Below;
+    }
+    Beside::NotBelow
 }
 
 // The highest temperature of region 1 at p.

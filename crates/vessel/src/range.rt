@@ -7,9 +7,10 @@ use common::boundaries::inside as in_range;
 use common::constant::P_MAX;
 use float::sign::is_finite;
 use pairs::row::Region;
+use r4::ends::Beside;
 use r4::ends::End;
 use r4::ends::T2pmax_reg2;
-use r4::ends::T2pmin_reg1;
+use r4::ends::beside_pmin_reg1;
 
 fn limits_1(p: f64, T: f64) -> u32
     ensures { λ r. ⌜ r ≡ decided (limits Region.One p T) 0 ⌝ }
@@ -20,14 +21,12 @@ fn limits_1(p: f64, T: f64) -> u32
     if P_MAX < p {
         return 3;
     }
-    let lowest = T2pmin_reg1(T);
-    let End::At(least) = lowest else {
-        return 9;
-    };
-    if p < least {
-        return 3;
+    let lies = beside_pmin_reg1(p, T);
+    match lies {
+        Beside::NoEnd => 9,
+        Beside::Below => 3,
+        Beside::NotBelow => 0,
     }
-    0
 }
 
 fn limits_2(p: f64, T: f64) -> u32
