@@ -1,6 +1,10 @@
-//! How often region 1's door check goes by its bound and not by the saturation line. The bound is private, so it is written here a second time, in Rust; nothing is decided by it, what it counts is told in docs/SPEED.md.
+//! Region 1's door check, which lets a pressure in by a bound and else asks the saturation line: what it answers about the line, against the second reading, and how often it goes by the bound.
+//! The bound is private, so it is written here a second time; nothing is decided by that, it only says where to ask and counts.
 
 use crate::draw::Draw;
+use crate::equations::beside;
+use crate::question::Question;
+use crate::tally::Tally;
 use crate::timing::inside_region_1;
 use original::r4::region4_sat_pT::p_saturation;
 
@@ -34,6 +38,44 @@ fn bound(t: f64) -> Option<f64> {
     let quotient = top / bottom;
     let tested = 0.0 < low && low < square && square < large && 1.0 < bottom && bottom < large && 0.0 < top && top < large && quotient < 1000.0;
     tested.then(|| quotient.powi(4))
+}
+
+/// A temperature of region 1, one in five at an end of it or next to one.
+fn temperature(draw: &mut Draw) -> f64 {
+    match draw.below(10) {
+        0 => beside(draw, 273.15),
+        1 => beside(draw, 623.15),
+        _ => draw.between(273.15, 623.15),
+    }
+}
+
+/// A pressure about the line at t, or about the bound: next to one of them, between them, or as far beyond.
+fn pressure(draw: &mut Draw, t: f64) -> f64 {
+    let line = p_saturation(t.clamp(273.15, 623.15));
+    let bound = bound(t).unwrap_or(line);
+    match draw.below(5) {
+        0 | 1 => beside(draw, line),
+        2 => beside(draw, bound),
+        3 => draw.between(line, bound),
+        _ => draw.between(0.99 * line, 1.01 * bound),
+    }
+}
+
+/// Every column of the public call about the line, against the second reading; whether nothing differed.
+pub fn compare() -> bool {
+    let mut draw = Draw::new(0x0c1b_0a70_0000_000d);
+    let mut tally = Tally::new("region 1's door check, by (p,T) to v");
+    let [mut inside, mut by_bound] = [0, 0];
+    for _ in 0..3_000_000 {
+        let t = temperature(&mut draw);
+        let p = pressure(&mut draw, t);
+        let question = Question::Property(1, 1, p, t);
+        let record = question.climboat();
+        inside += u64::from(record.number == 0);
+        by_bound += u64::from(record.number == 0 && bound(t).is_some_and(|bound| bound <= p));
+        tally.check(record.same(&question.table()), || question.digits());
+    }
+    tally.told(&format!(", about the saturation line: {inside} inside, {by_bound} of them by the bound"))
 }
 
 /// Over a million temperatures from 273.15 to 623.15 K where the bound lies, and over a million states inside region 1 how many go by it.

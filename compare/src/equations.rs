@@ -111,7 +111,7 @@ fn states(seed: u64, region: fn(&mut Draw, u64) -> (f64, f64)) -> Vec<(f64, f64)
 }
 
 /// One of the neighbours of x, or x itself.
-fn beside(draw: &mut Draw, x: f64) -> f64 {
+pub fn beside(draw: &mut Draw, x: f64) -> f64 {
     f64::from_bits(x.to_bits().wrapping_add(draw.below(7)).wrapping_sub(3))
 }
 

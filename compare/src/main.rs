@@ -1,4 +1,4 @@
-//! Climboat against Rust: `compare helpers` compares the float helpers, `compare nans` asks every call with every kind of NaN, `compare equations` the equations with the original crate, `compare searches` the pair searches with its test copy and with itself, `compare doubles` any two doubles with the refusal table and the steps of bisection read a second time, `compare recorded` makes the answers that crates/replay keeps, `compare vacuum` searches region 2 (T,v) from a low vacuum upwards and makes a table of docs/DIFFERENCES.md, `compare timing` prints the tables of docs/SPEED.md, with `--bars` also which of their bars were missed, `compare desk` prints the times and `compare desk states` the states and answers that compare/desk holds against a steam table in Python.
+//! Climboat against Rust: `compare helpers` compares the float helpers, `compare nans` asks every call with every kind of NaN, `compare equations` the equations with the original crate and region 1's door check with the refusal table read a second time, `compare searches` the pair searches with its test copy and with itself, `compare doubles` any two doubles with the refusal table and the steps of bisection read a second time, `compare recorded` makes the answers that crates/replay keeps, `compare vacuum` searches region 2 (T,v) from a low vacuum upwards and makes a table of docs/DIFFERENCES.md, `compare timing` prints the tables of docs/SPEED.md, with `--bars` also which of their bars were missed, `compare desk` prints the times and `compare desk states` the states and answers that compare/desk holds against a steam table in Python.
 
 mod bars;
 #[cfg(feature = "original")]
@@ -45,7 +45,7 @@ fn main() -> ExitCode {
         ["helpers"] => told(helpers::compare()),
         ["nans"] => told(nans::compare()),
         #[cfg(feature = "original")]
-        ["equations"] => told(equations::compare()),
+        ["equations"] => told(equations::compare() & door::compare()),
         #[cfg(feature = "original")]
         ["searches"] => told(searches::compare() & differences::compare()),
         #[cfg(feature = "original")]
