@@ -29,17 +29,17 @@ pub enum Kind {
 
 // What is summed, by number: specs/Kinds.antt says what each one means. The loop is told a number and not a `Kind`, since an enum is passed in memory and a number in a register: so the
 // compiler sees it through the calls, and writes each sum out by itself.
-pub const POLY: u32 = 0;
+const POLY: u32 = 0;
 
-pub const POLY_I: u32 = 1;
+const POLY_I: u32 = 1;
 
-pub const POLY_II: u32 = 2;
+const POLY_II: u32 = 2;
 
-pub const POLY_J: u32 = 3;
+const POLY_J: u32 = 3;
 
-pub const POLY_JJ: u32 = 4;
+const POLY_JJ: u32 = 4;
 
-pub const POLY_IJ: u32 = 5;
+const POLY_IJ: u32 = 5;
 
 pub const POLYS_0_J: u32 = 6;
 
@@ -276,7 +276,7 @@ fn cut(start: usize, size: usize, n: usize) -> usize
     n
 }
 
-// The same, tile by tile.
+// The sums gone on with over a part of a table, tile by tile.
 fn part(
     kind: u32,
     s: Sums,
@@ -312,7 +312,7 @@ fn part(
     sums
 }
 
-// The same, part by part: over a table.
+// The sums gone on with over a table, part by part.
 pub fn tiles(
     kind: u32,
     s: Sums,
@@ -348,7 +348,7 @@ pub fn tiles(
     sums
 }
 
-// The sum of the terms of one of the kinds POLY to POLY_IJ.
+// The sum of the terms of one of the kinds up to POLY_IJ.
 fn direct(
     kind: u32,
     vi: f64,
