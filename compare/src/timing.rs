@@ -5,6 +5,8 @@ use crate::bars::Bars;
 use crate::bars::{self, TimeBar};
 use crate::climboat::{self, Line, Pair, VESSELS_LIMIT};
 use crate::draw::Draw;
+#[cfg(feature = "original")]
+use crate::pairs::{Search, LIMIT, SEARCHES};
 use std::hint::black_box;
 use std::time::Instant;
 
@@ -73,7 +75,7 @@ fn barred_head(what: &str) {
 }
 
 #[cfg(feature = "original")]
-const TABLES: &[fn(&mut Bars)] = &[asked, |_| crate::door::table(), |_| helpers(), |_| calls(), properties, saturation_line, searches, |_| crate::bound::table(), |_| crate::many::table()];
+const TABLES: &[fn(&mut Bars)] = &[asked, |_| crate::door::table(), |_| helpers(), |_| calls(), properties, saturation_line, searches, |_| crate::bound::tables(), |_| crate::many::table()];
 #[cfg(not(feature = "original"))]
 const TABLES: &[fn(&mut Bars)] = &[|_| helpers(), |_| calls()];
 
@@ -206,20 +208,26 @@ fn saturation_line(bars: &mut Bars) {
     println!("{}", barred(bars, bar, "saturation temperature", &pressures, |&p| climboat::saturation_temperature(p), |&p| T_saturation(p)));
 }
 
-/// The eight searches, each over those of 2,000 states at which both answer.
+/// Fixed inputs and targets: of 2,000 states those at which both answer.
+#[cfg(feature = "original")]
+pub fn searched(search: &Search) -> Vec<(f64, f64)> {
+    let mut draw = Draw::new(0x0c1b_0a70_0000_0008);
+    let drawn = (0..2_000).map(|n| search.drawn(&mut draw, n % 2));
+    let mut inputs: Vec<(f64, f64)> = drawn.map(|(fixed, x)| (fixed, search.at(fixed, x))).collect();
+    // the original panics where the ends have residuals of one sign
+    std::panic::set_hook(Box::new(|_| {}));
+    inputs.retain(|&(fixed, target)| search.ours(fixed, target, LIMIT).number == 0 && std::panic::catch_unwind(|| (search.rusts)(fixed, target)).is_ok());
+    let _ = std::panic::take_hook();
+    inputs
+}
+
+/// The eight searches.
 #[cfg(feature = "original")]
 fn searches(bars: &mut Bars) {
-    use crate::pairs::{LIMIT, SEARCHES};
-    std::panic::set_hook(Box::new(|_| {}));
     barred_head("search");
     for search in &SEARCHES {
-        let mut draw = Draw::new(0x0c1b_0a70_0000_0008);
-        let drawn = (0..2_000).map(|n| search.drawn(&mut draw, n % 2));
-        let mut inputs: Vec<(f64, f64)> = drawn.map(|(fixed, x)| (fixed, search.at(fixed, x))).collect();
-        inputs.retain(|&(fixed, target)| search.ours(fixed, target, LIMIT).number == 0 && std::panic::catch_unwind(|| (search.rusts)(fixed, target)).is_ok());
-        println!("{}", barred(bars, search.time, search.name, &inputs, |i| search.ours(i.0, i.1, LIMIT).value, |i| (search.rusts)(i.0, i.1)));
+        println!("{}", barred(bars, search.time, search.name, &searched(search), |i| search.ours(i.0, i.1, LIMIT).value, |i| (search.rusts)(i.0, i.1)));
     }
-    let _ = std::panic::take_hook();
 }
 
 /// The function, given a zero to add to an input, for which the result before has to be known: how long one call takes, and not how many are under way at once.
