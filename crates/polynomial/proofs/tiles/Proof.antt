@@ -18,7 +18,7 @@ loop-holds : tie.Need-loop-holds Inv-loop μ-loop
 loop-holds c = summed-none _ _ _ _ _
 
 cut-requires : tie.Need-cut-requires Inv-loop μ-loop
-cut-requires c κs = c .before .loop .inv .within
+cut-requires c κs = let w = c .before .loop .inv .within in omega arith
 
 bounds : (c : tie.After-cut Inv-loop μ-loop) → Cut (c .before .before .loop .start) (c .cut .result) (length (now (c .before .before .before .before .args .is))) (length (now (c .before .before .before .before .args .js))) (length (now (c .before .before .before .before .args .ns)))
 bounds c = cut-within (omega arith) (c .before .loop-test .taken) (c .cut .ensures) (c .before .before .before .before .pre .0)

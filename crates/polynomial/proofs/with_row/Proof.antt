@@ -1,6 +1,5 @@
 -- `polynomial::with_row` meets its contract, kind by kind from its callees'. Assumes nothing.
 use Prim.Native.Nat.{_≤_}
-use mathlib.Core.Path.{_≡_}
 use native.Mathlib.Omega.{arith}
 use lib.ListN.{List·getD-eq-default}
 use mir.Facts.{toZ-ofZ}

@@ -1,10 +1,9 @@
 -- `r2::region2_gfe::polys_i_j_powi_reg2` meets its contract: the arrays are the table's columns, tested by computation, and what is left out changes nothing of what is read. Assumes nothing.
-use mathlib.Core.Path.{refl, ap, _∙_}
+use mathlib.Core.Path.{refl}
 use lib.Ieee.{ofBits}
 use Rattle.float.specs.Decimal.{rounded}
 use Rattle.polynomial.specs.Tables.{rows, allInRange}
 use Rattle.polynomial.specs.Kinds.{divided, only-i-j}
-use Rattle.polynomial.specs.declared.Sums.{Sums}
 use Rattle.polynomial.proofs.Components.{sums-i-j}
 use Rattle.r2.specs.Table11.{table}
 use Rattle.r2.specs.Region2.{residual, vj, residualTerms}
