@@ -1,14 +1,15 @@
 /* Times the public calls, or some formulas, of two builds of Climboat, before and after, in turn and on the same inputs: compare/builds links it with both.
- * Each figure is the median of nine passes, in nanoseconds for a call. */
+ * Each figure is the median of nine passes, in nanoseconds for a call. With the word "answers" it counts instead how many records, or results of formulas, are not the same in both. */
 #define _POSIX_C_SOURCE 199309L
 #include <math.h>
 #include <stdbool.h>
 #include <stdint.h>
 #include <stdio.h>
 #include <stdlib.h>
+#include <string.h>
 #include <time.h>
 
-enum { STATES = 20000, SEARCHED = 2000, PASSES = 9, LIMIT = 20000 };
+enum { STATES = 20000, SEARCHED = 2000, PASSES = 9, LIMIT = 20000, QUESTIONS = 100000 };
 
 typedef void property_call(uint32_t region, uint32_t property, double p, double T, uint32_t *numbers, double *doubles);
 typedef void line_call(double x, uint32_t *numbers, double *doubles);
@@ -43,7 +44,7 @@ enum search { PV, TV, TH, TS };
 enum formula { SQUARE_ROOT, FOURTH_ROOT, LOGARITHM, PRESSURE_FORMULA, TEMPERATURE_FORMULA };
 
 /* By their numbers in a (p,T) call. */
-enum property { V = 1, S = 3, H = 4, W = 7 };
+enum property { V = 1, U, S, H, CP, CV, W };
 
 enum form { PROPERTY, LINE, SEARCH, FORMULA };
 
@@ -55,8 +56,10 @@ struct call {
 };
 
 static const struct call calls[] = {
-    { "region 1 (p,T) to v", PROPERTY, V, 1 }, { "region 1 (p,T) to s", PROPERTY, S, 1 }, { "region 1 (p,T) to h", PROPERTY, H, 1 }, { "region 1 (p,T) to w", PROPERTY, W, 1 },
-    { "region 2 (p,T) to v", PROPERTY, V, 2 }, { "region 2 (p,T) to s", PROPERTY, S, 2 }, { "region 2 (p,T) to h", PROPERTY, H, 2 }, { "region 2 (p,T) to w", PROPERTY, W, 2 },
+    { "region 1 (p,T) to v", PROPERTY, V, 1 }, { "region 1 (p,T) to u", PROPERTY, U, 1 }, { "region 1 (p,T) to s", PROPERTY, S, 1 }, { "region 1 (p,T) to h", PROPERTY, H, 1 },
+    { "region 1 (p,T) to cp", PROPERTY, CP, 1 }, { "region 1 (p,T) to cv", PROPERTY, CV, 1 }, { "region 1 (p,T) to w", PROPERTY, W, 1 },
+    { "region 2 (p,T) to v", PROPERTY, V, 2 }, { "region 2 (p,T) to u", PROPERTY, U, 2 }, { "region 2 (p,T) to s", PROPERTY, S, 2 }, { "region 2 (p,T) to h", PROPERTY, H, 2 },
+    { "region 2 (p,T) to cp", PROPERTY, CP, 2 }, { "region 2 (p,T) to cv", PROPERTY, CV, 2 }, { "region 2 (p,T) to w", PROPERTY, W, 2 },
     { "saturation pressure", LINE, SATURATION_PRESSURE, 0 }, { "saturation temperature", LINE, SATURATION_TEMPERATURE, 0 },
     { "B23 pressure", LINE, B23_PRESSURE, 0 }, { "B23 temperature", LINE, B23_TEMPERATURE, 0 },
     { "region 1 (p,v) to T", SEARCH, PV, 1 }, { "region 1 (T,v) to p", SEARCH, TV, 1 }, { "region 1 (T,h) to p", SEARCH, TH, 1 }, { "region 1 (T,s) to p", SEARCH, TS, 1 },
@@ -182,8 +185,8 @@ static double median(double times[PASSES])
     return times[PASSES / 2];
 }
 
-/* A line of the table, or false where no input is answered by both. */
-static bool row(const struct call *call)
+/* A line of the timings, or false where no input is answered by both. */
+static bool timed(const struct call *call)
 {
     static struct inputs list[STATES];
     double times[2][PASSES], medians[2];
@@ -202,15 +205,76 @@ static bool row(const struct call *call)
     return true;
 }
 
-int main(void)
+/* The places of a record that are counted by themselves. */
+enum place { NUMBER = 0, STEPS = 2, VALUE = 0 };
+
+struct record {
+    uint32_t numbers[8];
+    uint64_t bits[8];
+};
+
+/* Where a build wrote nothing, a record has all bits set, as no answer has. */
+static struct record record(const struct build *build, const struct call *call, struct inputs inputs)
 {
+    struct record record;
+    memset(numbers, 0xff, sizeof numbers);
+    memset(doubles, 0xff, sizeof doubles);
+    ask(build, call, inputs);
+    memcpy(record.numbers, numbers, sizeof numbers);
+    memcpy(record.bits, doubles, sizeof doubles);
+    return record;
+}
+
+static double value(const struct record *record)
+{
+    double x;
+    memcpy(&x, &record->bits[VALUE], sizeof x);
+    return x;
+}
+
+/* Whether any column differs; one that an older build does not write is left out. */
+static bool differ(const struct record *a, const struct record *b)
+{
+    for (int n = 0; n < 8; n++) {
+        if (a->numbers[n] != b->numbers[n] && a->numbers[n] != UINT32_MAX && b->numbers[n] != UINT32_MAX)
+            return true;
+        if (a->bits[n] != b->bits[n] && a->bits[n] != UINT64_MAX && b->bits[n] != UINT64_MAX)
+            return true;
+    }
+    return false;
+}
+
+/* A line of the answers, refusals included; the distance is of two values under one number. */
+static void counted(const struct call *call)
+{
+    int records = 0, by_number = 0, by_steps = 0, by_value = 0;
+    double largest = 0.0;
+    for (int n = 0; n < QUESTIONS; n++) {
+        struct inputs inputs = drawn(call);
+        struct record a = record(&before, call, inputs), b = record(&after, call, inputs);
+        records += differ(&a, &b);
+        by_number += a.numbers[NUMBER] != b.numbers[NUMBER];
+        by_steps += a.numbers[STEPS] != b.numbers[STEPS];
+        by_value += a.bits[VALUE] != b.bits[VALUE];
+        if (a.bits[VALUE] != b.bits[VALUE] && a.numbers[NUMBER] == b.numbers[NUMBER])
+            largest = fmax(largest, fabs(value(&b) - value(&a)) / fabs(value(&a)));
+    }
+    printf("| %s | %d | %d | %d | %d | %d | %.2g |\n", call->name, QUESTIONS, records, by_number, by_steps, by_value, largest);
+}
+
+int main(int count, char **words)
+{
+    bool counting = count == 2 && strcmp(words[1], "answers") == 0;
     int rows = 0;
     for (size_t n = 0; n < sizeof calls / sizeof calls[0]; n++) {
         if (!offers(&before, &calls[n]) || !offers(&after, &calls[n]))
             continue;
         if (rows++ == 0)
-            puts("| call | before | after | after/before |\n|---|---|---|---|");
-        if (!row(&calls[n]))
+            puts(counting ? "| call | questions | differ in any column | in number | in steps | in value | largest relative distance of the value |\n|---|---|---|---|---|---|---|"
+                          : "| call | before | after | after/before |\n|---|---|---|---|");
+        if (counting)
+            counted(&calls[n]);
+        else if (!timed(&calls[n]))
             return 1;
     }
     if (rows == 0)

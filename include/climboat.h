@@ -18,7 +18,7 @@ extern "C" {
 #endif
 
 /* The version of Climboat, and what it follows. */
-#define CLIMBOAT_VERSION "0.4.0"
+#define CLIMBOAT_VERSION "0.5.0"
 #define CLIMBOAT_FOLLOWS "seuif97 2.3.8 and IAPWS R7-97(2012)"
 
 /* The region, always named by the caller; CLIMBOAT_NO_REGION and any other number are refused by CLIMBOAT_NOTHING_NAMED. */
@@ -33,7 +33,7 @@ enum climboat_property {
     CLIMBOAT_NO_PROPERTY = 0,     /* in an answer: the call has none, or was given a number that names none */
     CLIMBOAT_VOLUME = 1,          /* v, m^3/kg */
     CLIMBOAT_INTERNAL_ENERGY = 2, /* u, kJ/kg */
-    CLIMBOAT_ENTROPY = 3,         /* s, kJ/(kg K) */
+    CLIMBOAT_ENTROPY = 3,         /* s, kJ/(kg K); in region 2 it has ln p in it, which is proved to be less than 2^-48 off */
     CLIMBOAT_ENTHALPY = 4,        /* h, kJ/kg */
     CLIMBOAT_CP = 5,              /* cp, kJ/(kg K) */
     CLIMBOAT_CV = 6,              /* cv, kJ/(kg K) */

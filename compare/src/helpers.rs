@@ -36,7 +36,7 @@ fn logarithms() -> bool {
     let mut tally = Tally::new("logarithm");
     let mut draw = Draw::new(0x0c1b_0a70_0000_0003);
     let mut largest = (0.0f64, 1.0f64);
-    let bound = 2.0f64.powi(-47); // the proved 2^-48, and libm's own half unit in the last place at 18.4
+    let bound = (159.0 + 133.0) * 2.0f64.powi(-56); // what is proved, and libm's own: 0.52 of a unit in the last place at 18.4, which is 2^-48
     let mut one = |x: f64| {
         let found = climboat::ln(x);
         if (1.0e-8..=101.0).contains(&x) {

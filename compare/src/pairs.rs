@@ -45,8 +45,12 @@ pub const SEARCHES: [Search; 8] = [
     Search { name: "region 2 (p,v) to T", region: 2, pair: Pair::Pv, width: None, ends: |p| (least(p), 1073.15), property: r2::pT2v_reg2, copys: copy2::pv2T_reg2, rusts: pairs2::pv2T_reg2, time: Some(bars::SEARCH) },
     Search { name: "region 2 (T,v) to p", region: 2, pair: Pair::Tv, width: Some(|upper| 1.0e-6 * upper), ends: |_| (1.0e-8, 100.0), property: r2::pT2v_reg2, copys: copy2::Tv2p_reg2, rusts: pairs2::Tv2p_reg2, time: Some(bars::SEARCH) },
     Search { name: "region 2 (T,h) to p", region: 2, pair: Pair::Th, width: None, ends: |_| (1.0e-8, 100.0), property: r2::pT2h_reg2, copys: copy2::Th2p_reg2, rusts: pairs2::Th2p_reg2, time: Some(bars::SEARCH) },
-    Search { name: "region 2 (T,s) to p", region: 2, pair: Pair::Ts, width: None, ends: |t| (1.0e-8, highest(t)), property: r2::pT2s_reg2, copys: copy2::Ts2p_reg2, rusts: pairs2::Ts2p_reg2, time: None },
+    Search { name: "region 2 (T,s) to p", region: 2, pair: Pair::Ts, width: None, ends: |t| (1.0e-8, highest(t)), property: r2::pT2s_reg2, copys: copy2::Ts2p_reg2, rusts: pairs2::Ts2p_reg2, time: Some(bars::SEARCH_BY_LOGARITHM) },
 ];
+
+pub fn search(region: u32, pair: Pair) -> &'static Search {
+    SEARCHES.iter().find(|search| search.region == region && search.pair == pair).expect("one of the eight")
+}
 
 /// The highest pressure of region 2 at t, beyond its range as the original has it: it keeps its own to itself.
 fn highest(t: f64) -> f64 {

@@ -1,8 +1,6 @@
 //! Timings against the original crate's and Rust's own, and of the public calls against the formulas in them, as ratios from one run: medians of nine passes.
 
-use crate::bars::Bars;
-#[cfg(feature = "original")]
-use crate::bars::{self, TimeBar};
+use crate::bars::{self, Bars, TimeBar};
 use crate::climboat::{self, Line, Pair, VESSELS_LIMIT};
 use crate::draw::Draw;
 #[cfg(feature = "original")]
@@ -61,23 +59,21 @@ fn head(what: &str, theirs: &str) {
     println!("|---|---|---|---|");
 }
 
-/// A row against the original, with its bar and goal.
-#[cfg(feature = "original")]
-fn barred<T>(bars: &mut Bars, bar: Option<TimeBar>, what: &str, inputs: &[T], ours: impl FnMut(&T) -> f64, originals: impl FnMut(&T) -> f64) -> String {
-    let (row, ratio) = ratio(what, inputs, ours, originals);
+/// A row with its bar and goal.
+fn barred<T>(bars: &mut Bars, bar: Option<TimeBar>, what: &str, inputs: &[T], ours: impl FnMut(&T) -> f64, theirs: impl FnMut(&T) -> f64) -> String {
+    let (row, ratio) = ratio(what, inputs, ours, theirs);
     row + &bars.hold(what, ratio, bar)
 }
 
-#[cfg(feature = "original")]
-fn barred_head(what: &str) {
-    println!("| {what} | Climboat | original | ratio | bar | goal |");
+fn barred_head(what: &str, theirs: &str) {
+    println!("| {what} | Climboat | {theirs} | ratio | bar | goal |");
     println!("|---|---|---|---|---|---|");
 }
 
 #[cfg(feature = "original")]
-const TABLES: &[fn(&mut Bars)] = &[asked, |_| crate::door::table(), |_| helpers(), |_| calls(), properties, saturation_line, searches, |_| crate::bound::tables(), |_| crate::many::table()];
+const TABLES: &[fn(&mut Bars)] = &[asked, |_| crate::door::table(), helpers, |_| calls(), properties, saturation_line, searches, |_| crate::bound::tables(), |_| crate::many::table()];
 #[cfg(not(feature = "original"))]
-const TABLES: &[fn(&mut Bars)] = &[|_| helpers(), |_| calls()];
+const TABLES: &[fn(&mut Bars)] = &[helpers, |_| calls()];
 
 /// Prints every table, and gives the bars that their rows were held against.
 pub fn tables() -> Bars {
@@ -190,7 +186,7 @@ fn search(pair: Pair, region: u32, name: &str, states: &[(f64, f64)]) {
 #[cfg(feature = "original")]
 fn properties(bars: &mut Bars) {
     use crate::equations::{REGION_1, REGION_2};
-    barred_head("property");
+    barred_head("property", "original");
     for (rows, states) in [&REGION_1, &REGION_2].into_iter().zip(states()) {
         for r in rows {
             println!("{}", barred(bars, r.time, r.name, &states, |s| (r.ours)(s.0, s.1), |s| (r.rusts)(s.0, s.1)));
@@ -203,7 +199,7 @@ fn saturation_line(bars: &mut Bars) {
     use original::r4::region4_sat_pT::{T_saturation, p_saturation};
     let [temperatures, pressures] = saturated();
     let bar = Some(bars::SATURATION);
-    barred_head("saturation line");
+    barred_head("saturation line", "original");
     println!("{}", barred(bars, bar, "saturation pressure", &temperatures, |&t| climboat::saturation_pressure(t), |&t| p_saturation(t)));
     println!("{}", barred(bars, bar, "saturation temperature", &pressures, |&p| climboat::saturation_temperature(p), |&p| T_saturation(p)));
 }
@@ -224,7 +220,7 @@ pub fn searched(search: &Search) -> Vec<(f64, f64)> {
 /// The eight searches.
 #[cfg(feature = "original")]
 fn searches(bars: &mut Bars) {
-    barred_head("search");
+    barred_head("search", "original");
     for search in &SEARCHES {
         println!("{}", barred(bars, search.time, search.name, &searched(search), |i| search.ours(i.0, i.1, LIMIT).value, |i| (search.rusts)(i.0, i.1)));
     }
@@ -239,15 +235,20 @@ pub fn in_turn<T>(f: impl Fn(&T, f64) -> f64) -> impl FnMut(&T) -> f64 {
     }
 }
 
-fn helpers() {
+/// The powers, the roots and the logarithm; of the roots and the logarithm also each one waiting for the one before.
+fn helpers(bars: &mut Bars) {
     let mut draw = Draw::new(0x0c1b_0a70_0000_0005);
     let powers: Vec<(f64, i32)> = (0..200_000).map(|_| (draw.between(0.01, 8.0), draw.below(102) as i32 - 43)).collect();
     let roots: Vec<f64> = (0..200_000).map(|_| draw.logarithmic(1.0e-8, 1.0e8)).collect();
     let logs: Vec<f64> = (0..200_000).map(|_| draw.logarithmic(1.0e-8, 101.0)).collect();
-    head("helper", "Rust");
-    row("whole power, exponents -43 to 58", &powers, |p| climboat::powi(p.0, p.1), |p| p.0.powi(p.1));
-    row("square root", &roots, |&x| climboat::sqrt(x), |&x| x.sqrt());
-    row("square root, each waiting for the one before", &roots, in_turn(|x, zero| climboat::sqrt(x + zero)), in_turn(|x, zero| (x + zero).sqrt()));
-    row("fourth root", &roots, |&x| climboat::fourth_root(x), |&x| x.sqrt().sqrt());
-    row("logarithm", &logs, |&x| climboat::ln(x), |&x| x.ln());
+    let rows = [
+        barred(bars, None, "whole power, exponents -43 to 58", &powers, |p| climboat::powi(p.0, p.1), |p| p.0.powi(p.1)),
+        barred(bars, None, "square root", &roots, |&x| climboat::sqrt(x), |&x| x.sqrt()),
+        barred(bars, None, "square root, each waiting for the one before", &roots, in_turn(|x, zero| climboat::sqrt(x + zero)), in_turn(|x, zero| (x + zero).sqrt())),
+        barred(bars, None, "fourth root", &roots, |&x| climboat::fourth_root(x), |&x| x.sqrt().sqrt()),
+        barred(bars, Some(bars::LOGARITHM), "logarithm", &logs, |&x| climboat::ln(x), |&x| x.ln()),
+        barred(bars, None, "logarithm, each waiting for the one before", &logs, in_turn(|x, zero| climboat::ln(x + zero)), in_turn(|x, zero| (x + zero).ln())),
+    ];
+    barred_head("helper", "Rust");
+    rows.iter().for_each(|row| println!("{row}"));
 }

@@ -3,13 +3,12 @@
 use crate::climboat::{Pair, Record, EXACT_END, INSIDE, LARGEST_LIMIT, NARROW, SMALL_RESIDUAL};
 use crate::differences::CRATES_WIDTH;
 use crate::draw::same;
-use crate::pairs::{Search, LIMIT, SEARCHES};
+use crate::page;
+use crate::pairs::{self, Search, LIMIT};
 use copy::algo::root::bisection;
 use copy::run::Run;
 use std::collections::BTreeMap;
-use std::{fs, panic};
-
-const PAGE: &str = "docs/DIFFERENCES.md";
+use std::panic;
 
 const TEMPERATURES: [f64; 4] = [280.0, 400.0, 800.0, 1073.15];
 
@@ -20,7 +19,7 @@ const HEAD: &str = "| T, K | p, MPa | states (outside) | exact end, refused | be
 
 /// `compare vacuum` prints the table, with --check it looks for it on the page; either way it holds every answer to its reason.
 pub fn command(words: &[&str]) -> bool {
-    let search = SEARCHES.iter().find(|search| search.region == 2 && search.pair == Pair::Tv).expect("region 2 (T,v)");
+    let search = pairs::search(2, Pair::Tv);
     // where the original refuses it panics: not printed each time
     panic::set_hook(Box::new(|_| {}));
     let decades: Vec<Decade> = TEMPERATURES.iter().flat_map(|&t| (-8..=1).map(move |k| Decade::of(search, t, k))).collect();
@@ -35,7 +34,7 @@ pub fn command(words: &[&str]) -> bool {
         [] => print!("{table}"),
         ["--check"] => {
             println!("vacuum: {} states from 1.0e-8 to 100 MPa searched back, {} not within what their reason says, another record under the limit {LARGEST_LIMIT}, or not refused under {}", states().count(), faults.len(), LARGEST_LIMIT + 1);
-            return check(&table) & faults.is_empty();
+            return page::has("vacuum", &table) & faults.is_empty();
         }
         _ => {
             eprintln!("usage: compare vacuum [--check]");
@@ -43,17 +42,6 @@ pub fn command(words: &[&str]) -> bool {
         }
     }
     faults.is_empty()
-}
-
-/// Whether the page has the table.
-fn check(table: &str) -> bool {
-    let (good, told) = match fs::read_to_string(PAGE) {
-        Ok(page) if page.contains(table) => (true, String::from("the same when made again")),
-        Ok(_) => (false, String::from("DIFFERS from what `compare/run vacuum` prints")),
-        Err(error) => (false, error.to_string()),
-    };
-    println!("vacuum: the table in {PAGE}: {told}");
-    good
 }
 
 /// The states of a decade from 10^k; 100 MPa belongs to the last.

@@ -34,7 +34,7 @@ pub enum Property {
     Volume,
     /// u, the specific internal energy.
     InternalEnergy,
-    /// s, the specific entropy.
+    /// s, the specific entropy. In region 2 it has ln p in it, which is proved to be less than 2^-48 off.
     Entropy,
     /// h, the specific enthalpy.
     Enthalpy,

@@ -1,12 +1,13 @@
 pub mod Exponents
+pub mod Halves
 pub mod LogBound
 pub mod LogDistance
 pub mod LogEnds
 pub mod LogNested
 pub mod LogRange
+pub mod LogRows
 pub mod LogScaling
 pub mod LogTerms
-pub mod LogWords
 pub mod RootBits
 pub mod RootCases
 pub mod RootSquares

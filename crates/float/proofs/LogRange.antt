@@ -2,7 +2,7 @@
 use mathlib.Core.Path.{_≡_, refl, sym, ap, _∙_, subst}
 use mathlib.Core.Logic.{_⊎_, inl, inr}
 use mathlib.Core.Bool.{Bool, true, false, not, _&&_, cond}
-use Prim.Native.Nat.{ℕ, _+_, _-_, _*_, _/_, _%_, _^_, _≤_, _<_}
+use Prim.Native.Nat.{ℕ, _+_, _*_, _/_, _%_, _^_, _≤_, _<_}
 use native.Mathlib.Nat.{le-trans, le-of-eq, lt-of-le-of-lt, le-of-mul-le-mul-right, div-mul-le-self}
 use native.Mathlib.Omega.{arith}
 use lib.Dec.{T, lit≤, lit<}
@@ -90,20 +90,11 @@ inside x f a b =
     large k h = omega arith
 
 -- ---- the sizes on the way
-pub third : (t : ℕ) → t < 2 ^ 52 → t * 2 ^ 60 / (2 ^ 53 + t) * 3 ≤ 2 ^ 60
-third t h = le-of-mul-le-mul-right (go (t * 2 ^ 60 / (2 ^ 53 + t)) (div-mul-le-self (t * 2 ^ 60) (2 ^ 53 + t))) (pos t)
+pub at-most-third : (a d : ℕ) → 0 < d → a * 3 ≤ d → a * 2 ^ 64 / d * 3 ≤ 2 ^ 64
+at-most-third a d p h = le-of-mul-le-mul-right (go (a * 2 ^ 64 / d) (div-mul-le-self (a * 2 ^ 64) d)) p
   where
-    pos : (t : ℕ) → 0 < 2 ^ 53 + t
-    pos t = omega arith
-
-    go : (z : ℕ) → z * (2 ^ 53 + t) ≤ t * 2 ^ 60 → z * 3 * (2 ^ 53 + t) ≤ 2 ^ 60 * (2 ^ 53 + t)
+    go : (z : ℕ) → z * d ≤ a * 2 ^ 64 → z * 3 * d ≤ 2 ^ 64 * d
     go z e = omega arith
-
-pub ups : (e k : ℕ) → e ≡ k + 1 → k ≤ 1028 → e - 1023 ≤ 6
-ups e k h l = omega arith
-
-pub downs : (e k : ℕ) → e ≡ k + 1 → 995 ≤ k → 1023 - e ≤ 27
-downs e k h l = omega arith
 
 -- ---- the two sides of the definition's test
 pub ln-in : (x : Float) → le least x ≡ true → le x most ≡ true → logarithm x ≡ ofParts (toBits binary64 x / 2 ^ 52) (toBits binary64 x % 2 ^ 52)

@@ -6,32 +6,26 @@ use native.Mathlib.Numerals.{add-one}
 use native.Mathlib.Omega.{arith}
 use Rattle.float.specs.Log.{term, total}
 
-pub term-next : (j z w : ℕ) → term (j + 1) z w ≡ term j z w * w / 2 ^ 60
+pub term-next : (j z w : ℕ) → term (j + 1) z w ≡ term j z w * w / 2 ^ 64
 unfolding term
 term-next j z w = ap (λ (n : ℕ). term n z w) (add-one j)
 
-pub total-next : (j z w : ℕ) → total (j + 1) z w ≡ total j z w + term j z w / (2 * j + 1)
+pub total-next : (i j z w : ℕ) → total i (j + 1) z w ≡ total i j z w + term j z w / (i * j + 1)
 unfolding total
-total-next j z w = ap (λ (n : ℕ). total n z w) (add-one j)
+total-next i j z w = ap (λ (n : ℕ). total i n z w) (add-one j)
 
-pub cut : (t w : ℕ) → w ≤ 2 ^ 60 → t * w / 2 ^ 60 ≤ t
-cut t w h = div-le-of-le-mul (2 ^ 60) (le-trans (mul-le-mul-left t h) (le-of-eq (mul-comm t (2 ^ 60))))
-
-pub square : (z : ℕ) → z * 3 ≤ 2 ^ 60 → z * z / 2 ^ 60 ≤ 2 ^ 60
-square z h = le-trans (cut z z (third z h)) (third z h)
-  where
-    third : (z : ℕ) → z * 3 ≤ 2 ^ 60 → z ≤ 2 ^ 60
-    third z h = omega arith
+pub cut : (t w : ℕ) → w ≤ 2 ^ 64 → t * w / 2 ^ 64 ≤ t
+cut t w h = div-le-of-le-mul (2 ^ 64) (le-trans (mul-le-mul-left t h) (le-of-eq (mul-comm t (2 ^ 64))))
 
 -- j turns of at most z each, and one more
-pub more : (j z s t : ℕ) → s ≤ j * z → t ≤ z → s + t / (2 * j + 1) ≤ (j + 1) * z
-more j z s t h k =
-    let d : t / (2 * j + 1) ≤ t = div-le-self t (2 * j + 1) in
+pub more : (j z s t m : ℕ) → s ≤ j * z → t ≤ z → s + t / m ≤ (j + 1) * z
+more j z s t m h k =
+    let d : t / m ≤ t = div-le-self t m in
     let e : (j + 1) * z ≡ j * z + z = one j z in
     omega arith
   where
     one : (j z : ℕ) → (j + 1) * z ≡ j * z + z
     one j z = omega arith
 
-pub upto : (j z : ℕ) → j < 17 → (j + 1) * z ≤ 17 * z
+pub upto : (j z : ℕ) → j < 8 → (j + 1) * z ≤ 8 * z
 upto j z h = mul-le-mul-right z (omega arith)

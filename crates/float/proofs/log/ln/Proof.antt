@@ -2,14 +2,15 @@
 use mathlib.Core.Path.{_≡_, sym, ap, _∙_, subst}
 use mathlib.Core.Bool.{Bool, true}
 use Prim.Native.Nat.{ℕ, _+_, _-_, _*_, _/_, _%_, _^_, _≤_}
-use native.Mathlib.Nat.{mod-lt, le-trans, le-of-eq}
+use native.Mathlib.Nat.{mod-lt}
 use native.Mathlib.Omega.{arith}
 use borrow.Author.Needs.{needs}
 use lib.Dec.{T}
 use lib.Pow.{pow-pos}
 use lib.Ieee.{binary64, fits, le, div, ofBits, toBits}
-use Rattle.float.specs.Log.{least, most, ofParts, difference, artanh, ln2}
-use Rattle.float.proofs.LogRange.{not-nan, Inside, inside, third, ups, downs, ln-in, ln-low, ln-high}
+use Rattle.float.specs.Log.{least, most, ofParts, ofRow, difference, fallen, reciprocal, minusLog, ln2}
+use Rattle.float.proofs.LogRange.{not-nan, Inside, inside, ln-in, ln-low, ln-high}
+use Rattle.float.proofs.LogRows.{Lacks, lacks}
 use Rattle.float.proofs.log.ln.Statement.{statement}
 use Rattle.float.proofs.log.ln.Tie as tie
 
@@ -27,44 +28,48 @@ in-of c =
 float-to-bits-b : tie.Need-float-to-bits-b
 float-to-bits-b c = not-nan (c .before .before .args .x) (is-T (le least (c .before .before .args .x)) (c .before .if1 .taken))
 
-add-quotient : tie.Need-add-quotient
-add-quotient c = search needs
+row-requires : tie.Need-row-requires
+row-requires c κs = search needs
 
-quotient-requires : tie.Need-quotient-requires
-quotient-requires c κs = search needs
+add-z : tie.Need-add-z
+add-z c = search needs
 
-series-requires : tie.Need-series-requires
-series-requires c κs =
+-- the digits, and what they and the row's reciprocal lack to 2 ^ 60
+lacks-of : (c : tie.After-row) → Lacks (2 ^ 52 + toBits binary64 (c .before .before .before .args .x) % 2 ^ 52) (c .row .result / 2 ^ 56)
+lacks-of c =
     let t = toBits binary64 (c .before .before .before .args .x) % 2 ^ 52 in
-    subst (λ (z : ℕ). z * 3 ≤ 2 ^ 60) (sym (c .quotient .ensures)) (third t (mod-lt (toBits binary64 (c .before .before .before .args .x)) (pow-pos 52)))
+    in-row t _ (c .row .result / 2 ^ 56) (c .row .ensures .0) (omega arith) (lacks t (mod-lt (toBits binary64 (c .before .before .before .args .x)) (pow-pos 52)))
+  where
+    in-row : (t j r : ℕ) → r ≡ reciprocal j → j ≡ t / 2 ^ 46 → Lacks (2 ^ 52 + t) (reciprocal (t / 2 ^ 46)) → Lacks (2 ^ 52 + t) r
+    in-row t j r e k L = subst (λ (n : ℕ). Lacks (2 ^ 52 + t) n) (sym (e ∙ ap reciprocal k)) L
+
+mul-z : tie.Need-mul-z
+mul-z c = omega (arith, lacks-of c .part)
+
+sub-z : tie.Need-sub-z
+sub-z c = lacks-of c .part
+
+mul-fallen : tie.Need-mul-fallen
+mul-fallen c = omega (arith, lacks-of c .small)
+
+fallen-requires : tie.Need-fallen-requires
+fallen-requires c κs = omega (arith, lacks-of c .small)
 
 monus-requires : tie.Need-monus-requires
 monus-requires c κs = search needs
 
--- the exponent's field, difference 1023 and under 1023
+-- the exponent's field, above 1023 and under 1023
 up-of : (c : tie.After-monus) → c .monus .result ≤ 6
-up-of c =
-    let i = in-of (c .before .before .before) in
-    le-trans (le-of-eq (c .monus .ensures)) (ups (toBits binary64 (c .before .before .before .before .before .args .x) / 2 ^ 52) (i .of .k) (i .of .field) (i .high))
+up-of c = let i = in-of (c .before .before .before) in omega (arith, c .monus .ensures, i .of .field, i .high)
 
 down-of : (c : tie.After-monus2) → c .monus2 .result ≤ 27
-down-of c =
-    let i = in-of (c .before .before .before .before) in
-    le-trans (le-of-eq (c .monus2 .ensures)) (downs (toBits binary64 (c .before .before .before .before .before .before .args .x) / 2 ^ 52) (i .of .k) (i .of .field) (i .low))
-
-sum-of : (c : tie.After-series) → c .series .result ≤ 6 * 2 ^ 60
-sum-of c =
-    let z = c .before .quotient .result in
-    go z (c .series .result) (series-requires (c .before) _) (c .series .ensures .1)
-  where
-    go : (z r : ℕ) → z * 3 ≤ 2 ^ 60 → r ≤ 17 * z → r ≤ 6 * 2 ^ 60
-    go z r h k = omega arith
+down-of c = let i = in-of (c .before .before .before .before) in omega (arith, c .monus2 .ensures, i .of .field, i .low)
 
 mul-difference : tie.Need-mul-difference
 mul-difference c = omega (arith, up-of c)
 
 add-difference : tie.Need-add-difference
-add-difference c = omega (arith, up-of c, sum-of (c .before))
+add-difference c = omega (arith, up-of c)
 
 monus-requires-2 : tie.Need-monus-requires-2
 monus-requires-2 c κs = search needs
@@ -72,22 +77,29 @@ monus-requires-2 c κs = search needs
 mul-difference-2 : tie.Need-mul-difference-2
 mul-difference-2 c = omega (arith, down-of c)
 
+add-difference-2 : tie.Need-add-difference-2
+add-difference-2 c = omega (arith, down-of c)
+
 difference-requires : tie.Need-difference-requires
-difference-requires c κs = (omega (arith, up-of (c .before), sum-of (c .before .before)), omega (arith, down-of c))
+difference-requires c κs = (omega (arith, up-of (c .before)), omega (arith, down-of c))
 
 returns : tie.Need-returns
-unfolding ofParts
+unfolding ofParts ofRow
 returns c =
-    let x = c .before .before .before .before .before .before .before .args .x in
     let m2 = c .before in
     let m1 = m2 .before in
-    let s = m1 .before in
-    let q = s .before in
+    let f = m1 .before in
+    let w = f .before in
+    let x = w .before .before .before .args .x in
+    let e = toBits binary64 x / 2 ^ 52 in
+    let t = toBits binary64 x % 2 ^ 52 in
+    let k = reciprocal (t / 2 ^ 46) in
     c .difference .ensures
-    ∙ ap (λ (n : ℕ). difference (s .series .result / 8 + n * ln2) (m2 .monus2 .result * ln2)) (m1 .monus .ensures)
-    ∙ ap (λ (n : ℕ). difference (s .series .result / 8 + (toBits binary64 x / 2 ^ 52 - 1023) * ln2) (n * ln2)) (m2 .monus2 .ensures)
-    ∙ ap (λ (n : ℕ). difference (n / 8 + (toBits binary64 x / 2 ^ 52 - 1023) * ln2) ((1023 - toBits binary64 x / 2 ^ 52) * ln2)) (s .series .ensures .0 ∙ ap artanh (q .quotient .ensures))
-    ∙ sym (ln-in x (q .before .before .if1 .taken) (q .before .if2 .taken))
+    ∙ ap (λ (n : ℕ). difference (w .row .result % 2 ^ 56 + n * ln2) (f .fallen .result / 2 ^ 8 + m2 .monus2 .result * ln2)) (m1 .monus .ensures)
+    ∙ ap (λ (n : ℕ). difference (w .row .result % 2 ^ 56 + (e - 1023) * ln2) (f .fallen .result / 2 ^ 8 + n * ln2)) (m2 .monus2 .ensures)
+    ∙ ap (λ (n : ℕ). difference (n + (e - 1023) * ln2) (f .fallen .result / 2 ^ 8 + (1023 - e) * ln2)) (w .row .ensures .1)
+    ∙ ap (λ (n : ℕ). difference (minusLog k + (e - 1023) * ln2) (n / 2 ^ 8 + (1023 - e) * ln2)) (f .fallen .ensures ∙ ap (λ (r : ℕ). fallen ((2 ^ 60 - (2 ^ 52 + t) * r) * 2 ^ 4)) (w .row .ensures .0))
+    ∙ sym (ln-in x (w .before .before .if1 .taken) (w .before .if2 .taken))
 
 returns-2 : tie.Need-returns-2
 unfolding div ofBits
@@ -102,14 +114,18 @@ ln-spec =
     tie.close
     (tie.spec
     float-to-bits-b
-    add-quotient
-    quotient-requires
-    series-requires
+    row-requires
+    add-z
+    mul-z
+    sub-z
+    mul-fallen
+    fallen-requires
     monus-requires
     mul-difference
     add-difference
     monus-requires-2
     mul-difference-2
+    add-difference-2
     difference-requires
     returns
     returns-2
