@@ -64,6 +64,9 @@ static const struct call calls[] = {
     { "B23 pressure", LINE, B23_PRESSURE, 0 }, { "B23 temperature", LINE, B23_TEMPERATURE, 0 },
     { "region 1 (p,v) to T", SEARCH, PV, 1 }, { "region 1 (T,v) to p", SEARCH, TV, 1 }, { "region 1 (T,h) to p", SEARCH, TH, 1 }, { "region 1 (T,s) to p", SEARCH, TS, 1 },
     { "region 2 (p,v) to T", SEARCH, PV, 2 }, { "region 2 (T,v) to p", SEARCH, TV, 2 }, { "region 2 (T,h) to p", SEARCH, TH, 2 }, { "region 2 (T,s) to p", SEARCH, TS, 2 },
+    { "region 5 (p,T) to v", PROPERTY, V, 5 }, { "region 5 (p,T) to u", PROPERTY, U, 5 }, { "region 5 (p,T) to s", PROPERTY, S, 5 }, { "region 5 (p,T) to h", PROPERTY, H, 5 },
+    { "region 5 (p,T) to cp", PROPERTY, CP, 5 }, { "region 5 (p,T) to cv", PROPERTY, CV, 5 }, { "region 5 (p,T) to w", PROPERTY, W, 5 },
+    { "region 5 (T,v) to p", SEARCH, TV, 5 }, { "region 5 (T,h) to p", SEARCH, TH, 5 }, { "region 5 (T,s) to p", SEARCH, TS, 5 },
     { "square root", FORMULA, SQUARE_ROOT, 0 }, { "fourth root", FORMULA, FOURTH_ROOT, 0 }, { "logarithm", FORMULA, LOGARITHM, 0 },
     { "saturation pressure, formula alone", FORMULA, PRESSURE_FORMULA, 0 }, { "saturation temperature, formula alone", FORMULA, TEMPERATURE_FORMULA, 0 },
 };
@@ -127,10 +130,27 @@ static double on_line(enum line line, double x)
 /* A pressure and a temperature of a region; one that rounding puts outside is refused, and left out. */
 static struct inputs state(uint32_t region)
 {
+    if (region == 5)
+        return (struct inputs){ logarithmic(1.0e-8, 50.0), between(1073.15, 2273.15) };
     double T = between(273.15, region == 1 ? 623.15 : 1073.15);
     double boundary = T <= 623.15 ? on_line(SATURATION_PRESSURE, T) : T <= 863.15 ? on_line(B23_PRESSURE, T) : 100.0;
     double p = region == 1 ? between(boundary, 100.0) : logarithmic(1.0e-8, boundary);
     return (struct inputs){ p, T };
+}
+
+/* Whether the build has the call's region: an archive of before region 5 refuses it by 21. */
+static bool has_region(const struct build *build, const struct call *call)
+{
+    if (call->form != PROPERTY && call->form != SEARCH)
+        return true;
+    build->pT(call->region, V, 1.0, call->region == 5 ? 1500.0 : 500.0, numbers, doubles);
+    return numbers[0] != 21;
+}
+
+/* Whose states the targets of a search are of: those of before, if it has the region. */
+static const struct build *targets_of(const struct call *call)
+{
+    return has_region(&before, call) ? &before : &after;
 }
 
 /* An input of the call, a search's from a state of its region. */
@@ -147,17 +167,18 @@ static struct inputs drawn(const struct call *call)
     at = state(call->region);
     if (call->form == PROPERTY)
         return at;
-    before.pT(call->region, targets[call->which], at.first, at.second, numbers, doubles);
+    targets_of(call)->pT(call->region, targets[call->which], at.first, at.second, numbers, doubles);
     return (struct inputs){ call->which == PV ? at.first : at.second, doubles[0] };
 }
 
-/* Draws inputs of the call, and lists those that both builds answer; how many they are. */
+/* Draws inputs of the call, and lists those that every build answers that has its region; how many they are. */
 static int prepared(const struct call *call, struct inputs *list)
 {
     int wanted = call->form == SEARCH ? SEARCHED : STATES, count = 0;
+    bool first = has_region(&before, call), second = has_region(&after, call);
     for (int n = 0; n < wanted; n++) {
         list[count] = drawn(call);
-        if (answers(&before, call, list[count]) && answers(&after, call, list[count]))
+        if ((!first || answers(&before, call, list[count])) && (!second || answers(&after, call, list[count])))
             count++;
     }
     return count;
@@ -185,11 +206,21 @@ static double median(double times[PASSES])
     return times[PASSES / 2];
 }
 
+/* A cell of the timings: what is refused is not timed. */
+static void print_cell(bool has, double time)
+{
+    if (has)
+        printf(" %.1f ns |", time);
+    else
+        printf(" refused by 21 |");
+}
+
 /* A line of the timings, or false where no input is answered by both. */
 static bool timed(const struct call *call)
 {
     static struct inputs list[STATES];
     double times[2][PASSES], medians[2];
+    bool first = has_region(&before, call), second = has_region(&after, call);
     int count = prepared(call, list);
     if (count == 0) {
         fprintf(stderr, "builds: %s: no input that both builds answer\n", call->name);
@@ -201,7 +232,13 @@ static bool timed(const struct call *call)
     }
     medians[0] = median(times[0]);
     medians[1] = median(times[1]);
-    printf("| %s | %.1f ns | %.1f ns | %.2f |\n", call->name, medians[0], medians[1], medians[1] / medians[0]);
+    printf("| %s |", call->name);
+    print_cell(first, medians[0]);
+    print_cell(second, medians[1]);
+    if (first && second)
+        printf(" %.2f |\n", medians[1] / medians[0]);
+    else
+        printf(" - |\n");
     return true;
 }
 
@@ -247,19 +284,20 @@ static bool differ(const struct record *a, const struct record *b)
 /* A line of the answers, refusals included; the distance is of two values under one number. */
 static void counted(const struct call *call)
 {
-    int records = 0, by_number = 0, by_steps = 0, by_value = 0;
+    int records = 0, by_number = 0, unnamed = 0, by_steps = 0, by_value = 0;
     double largest = 0.0;
     for (int n = 0; n < QUESTIONS; n++) {
         struct inputs inputs = drawn(call);
         struct record a = record(&before, call, inputs), b = record(&after, call, inputs);
         records += differ(&a, &b);
         by_number += a.numbers[NUMBER] != b.numbers[NUMBER];
+        unnamed += (a.numbers[NUMBER] == 21) != (b.numbers[NUMBER] == 21);
         by_steps += a.numbers[STEPS] != b.numbers[STEPS];
         by_value += a.bits[VALUE] != b.bits[VALUE];
         if (a.bits[VALUE] != b.bits[VALUE] && a.numbers[NUMBER] == b.numbers[NUMBER])
             largest = fmax(largest, fabs(value(&b) - value(&a)) / fabs(value(&a)));
     }
-    printf("| %s | %d | %d | %d | %d | %d | %.2g |\n", call->name, QUESTIONS, records, by_number, by_steps, by_value, largest);
+    printf("| %s | %d | %d | %d | %d | %d | %d | %.2g |\n", call->name, QUESTIONS, records, by_number, unnamed, by_steps, by_value, largest);
 }
 
 int main(int count, char **words)
@@ -270,7 +308,7 @@ int main(int count, char **words)
         if (!offers(&before, &calls[n]) || !offers(&after, &calls[n]))
             continue;
         if (rows++ == 0)
-            puts(counting ? "| call | questions | differ in any column | in number | in steps | in value | largest relative distance of the value |\n|---|---|---|---|---|---|---|"
+            puts(counting ? "| call | questions | differ in any column | in number | of these by 21 in one build alone | in steps | in value | largest relative distance of the value |\n|---|---|---|---|---|---|---|---|"
                           : "| call | before | after | after/before |\n|---|---|---|---|");
         if (counting)
             counted(&calls[n]);

@@ -1,4 +1,4 @@
-/* Climboat for C11 and C++: what temperature, what pressure, what volume, for water and steam (IAPWS-IF97 regions 1 and 2), or a numbered refusal.
+/* Climboat for C11 and C++: what temperature, what pressure, what volume, for water and steam (IAPWS-IF97 regions 1, 2 and 5), or a numbered refusal.
  * Link libclimboat.a (tools/staticlib climboat). Units: MPa, K, m^3/kg, kJ/kg, kJ/(kg K), m/s.
  * Every answer and every refusal says what it is of: the call, the region, the property and both inputs, which come back bit for bit, a NaN's pattern too. The proofs know one NaN
  * only: that patterns with every bit of the payload, quiet and signalling, come back as they went in is measured by bindings/c/run, on the processor that it runs on.
@@ -18,14 +18,16 @@ extern "C" {
 #endif
 
 /* The version of Climboat, and what it follows. */
-#define CLIMBOAT_VERSION "0.5.0"
+#define CLIMBOAT_VERSION "0.6.0"
 #define CLIMBOAT_FOLLOWS "seuif97 2.3.8 and IAPWS R7-97(2012)"
 
-/* The region, always named by the caller; CLIMBOAT_NO_REGION and any other number are refused by CLIMBOAT_NOTHING_NAMED. */
+/* The region, always named by the caller; CLIMBOAT_NO_REGION and any other number are refused by CLIMBOAT_NOTHING_NAMED. Every call that names one takes all three, but for climboat_pv2T,
+ * which takes 1 and 2 alone. A point on the saturation line belongs to region 1 or 2, and one at 1073.15 K to region 2 or 5, as named; the release's equations differ a little there. */
 enum climboat_region {
-    CLIMBOAT_NO_REGION = 0, /* in an answer: the call has none, or was given a number that names none */
+    CLIMBOAT_NO_REGION = 0, /* in an answer: the call has none, or was given a number that names none of the call's */
     CLIMBOAT_REGION_1 = 1,  /* liquid water: 273.15 to 623.15 K, from saturation pressure to 100 MPa */
-    CLIMBOAT_REGION_2 = 2   /* steam: 273.15 to 1073.15 K, from 1.0e-8 MPa to saturation pressure, B23 or 100 MPa */
+    CLIMBOAT_REGION_2 = 2,  /* steam: 273.15 to 1073.15 K, from 1.0e-8 MPa to saturation pressure, B23 or 100 MPa */
+    CLIMBOAT_REGION_5 = 5   /* steam: 1073.15 to 2273.15 K, from 1.0e-8 to 50 MPa */
 };
 
 /* The property of a climboat_pT call; CLIMBOAT_NO_PROPERTY and any other number are refused by CLIMBOAT_NOTHING_NAMED. */
@@ -33,7 +35,7 @@ enum climboat_property {
     CLIMBOAT_NO_PROPERTY = 0,     /* in an answer: the call has none, or was given a number that names none */
     CLIMBOAT_VOLUME = 1,          /* v, m^3/kg */
     CLIMBOAT_INTERNAL_ENERGY = 2, /* u, kJ/kg */
-    CLIMBOAT_ENTROPY = 3,         /* s, kJ/(kg K); in region 2 it has ln p in it, which is proved to be less than 2^-48 off */
+    CLIMBOAT_ENTROPY = 3,         /* s, kJ/(kg K); in regions 2 and 5 it has ln p in it, which is proved to be less than 2^-48 off */
     CLIMBOAT_ENTHALPY = 4,        /* h, kJ/kg */
     CLIMBOAT_CP = 5,              /* cp, kJ/(kg K) */
     CLIMBOAT_CV = 6,              /* cv, kJ/(kg K) */
@@ -83,7 +85,7 @@ enum climboat_refusal {
     CLIMBOAT_RESULT_NOT_FINITE = 9,   /* a property, saturation or B23 result is not finite */
     CLIMBOAT_POINT_OUTSIDE = 10,      /* the next point is outside the bracket */
     CLIMBOAT_LIMIT_TOO_LARGE = 11,    /* the step limit is above CLIMBOAT_LARGEST_STEP_LIMIT */
-    CLIMBOAT_NOTHING_NAMED = 21       /* the number given for a region or a property names nothing */
+    CLIMBOAT_NOTHING_NAMED = 21       /* the number given for a region or a property names none that the call has: climboat_pv2T has no region 5 */
 };
 
 /* CLIMBOAT_STEP_LIMIT is the step limit that the vessels use, CLIMBOAT_LARGEST_STEP_LIMIT the largest that a search takes: one above it is refused by 11. Up to it a larger limit never
@@ -106,7 +108,7 @@ struct climboat_answer {
     double upper_residual;   /* 0 and 0 without a bracket; for 6 one that is not finite is given as 0 */
     double first;            /* the call's first input as it was given, bit for bit */
     double second;           /* its second input likewise; 0 for the saturation line and B23, which have one */
-    uint32_t region;         /* enum climboat_region; 0 for the saturation line and B23, and for 21 where the number given names no region */
+    uint32_t region;         /* enum climboat_region; 0 for the saturation line and B23, and for 21 where the number given names no region of the call's */
     enum climboat_kind kind; /* the call, never 0 */
     uint32_t property;       /* enum climboat_property; 0 for every call but climboat_pT, and for 21 where the number given names no property */
     uint32_t room;           /* always 0; where an enum has four bytes it leaves the struct without a gap, whose bytes could be anything */
@@ -192,7 +194,7 @@ static inline struct climboat_answer climboat_B23_temperature(double p)
     return climboat_answer_of(&record);
 }
 
-/* (p,v) to T: the temperature in K at p in MPa and v in m^3/kg, in at most limit steps. */
+/* (p,v) to T: the temperature in K at p in MPa and v in m^3/kg, in at most limit steps. Regions 1 and 2 alone: CLIMBOAT_REGION_5 is refused by CLIMBOAT_NOTHING_NAMED. */
 static inline struct climboat_answer climboat_pv2T(uint32_t region, double p, double v, uint32_t limit)
 {
     struct climboat_record record;
@@ -200,7 +202,8 @@ static inline struct climboat_answer climboat_pv2T(uint32_t region, double p, do
     return climboat_answer_of(&record);
 }
 
-/* (T,v) to p: the pressure in MPa at T in K and v in m^3/kg, in at most limit steps. The ends of a narrow answer of region 2 are less than a millionth of the upper one apart, in a low vacuum too. */
+/* (T,v) to p: the pressure in MPa at T in K and v in m^3/kg, in at most limit steps. The ends of a narrow answer of region 2 are less than a millionth of the upper one apart, in a low vacuum too;
+ * those of region 5, by Brent's rule, are up to 1.2e-7 times the pressure plus 1.0e-8 MPa apart, which in a low vacuum is a larger part of it. */
 static inline struct climboat_answer climboat_Tv2p(uint32_t region, double T, double v, uint32_t limit)
 {
     struct climboat_record record;
@@ -253,7 +256,7 @@ static inline const char *climboat_sentence(uint32_t number)
     case CLIMBOAT_RESULT_NOT_FINITE: return "a property, saturation or B23 result is not finite";
     case CLIMBOAT_POINT_OUTSIDE: return "the next point of the search is outside its bracket";
     case CLIMBOAT_LIMIT_TOO_LARGE: return "the step limit is above 65535";
-    case CLIMBOAT_NOTHING_NAMED: return "the number given for a region or a property names nothing";
+    case CLIMBOAT_NOTHING_NAMED: return "the number given for a region or a property names none that this call has; (p,v) has regions 1 and 2 alone";
     default: return "no refusal has this number";
     }
 }

@@ -90,26 +90,31 @@ static void hold_at(struct question q, enum place place, uint64_t bits)
     hold(&q);
 }
 
-/* At every place of every call, with no region and with each, and with a step limit that is too large: 21, 11 and what the bits themselves come to. */
+/* At every place of a call, also with a step limit that is too large. */
+static void hold_places(enum climboat_kind kind, uint32_t region, uint64_t bits)
+{
+    uint32_t place;
+    for (place = 0; place < places(kind); place++) {
+        uint32_t property = 1 + draw_below(7);
+        hold_at(ordinary(kind, region, property, CLIMBOAT_STEP_LIMIT), (enum place)place, bits);
+        hold_at(ordinary(kind, region, property, CLIMBOAT_LARGEST_STEP_LIMIT + 1), (enum place)place, bits);
+    }
+}
+
+/* At every place of every call, with no region and with each: 21, 11 and what the bits themselves come to. */
 static void hold_everywhere(uint64_t bits)
 {
-    uint32_t i, region, place;
-    for (i = 1; i <= KINDS; i++) {
-        enum climboat_kind kind = (enum climboat_kind)i;
-        for (region = CLIMBOAT_NO_REGION; region <= CLIMBOAT_REGION_2; region++) {
-            for (place = 0; place < places(kind); place++) {
-                uint32_t property = 1 + draw_below(7);
-                hold_at(ordinary(kind, region, property, CLIMBOAT_STEP_LIMIT), (enum place)place, bits);
-                hold_at(ordinary(kind, region, property, CLIMBOAT_LARGEST_STEP_LIMIT + 1), (enum place)place, bits);
-            }
-        }
+    uint32_t kind, i;
+    for (kind = 1; kind <= KINDS; kind++) {
+        hold_places((enum climboat_kind)kind, CLIMBOAT_NO_REGION, bits);
+        for (i = 0; i < REGIONS; i++) hold_places((enum climboat_kind)kind, regions[i], bits);
     }
 }
 
 static void hold_drawn(void)
 {
     enum climboat_kind kind = (enum climboat_kind)(1 + draw_below(KINDS));
-    struct question q = ordinary(kind, draw_below(4), draw_below(9), draw_below(CLIMBOAT_LARGEST_STEP_LIMIT + 2));
+    struct question q = ordinary(kind, draw_below(CLIMBOAT_REGION_5 + 1), draw_below(9), draw_below(CLIMBOAT_LARGEST_STEP_LIMIT + 2));
     hold_at(q, (enum place)draw_below(places(kind)), drawn_pattern());
 }
 
@@ -149,7 +154,7 @@ static void hold_edges(void)
     }
 }
 
-/* Numbers that name nothing, alone and together, beside those that name something. */
+/* Numbers that name nothing, or a region that (p,v) has not, alone and together, beside those that name something. */
 static void hold_numbers(void)
 {
     static const uint32_t numbers[] = {0, 1, 2, 3, 4, 5, 6, 7, 8, 9, UINT32_C(0x80000001), UINT32_MAX};

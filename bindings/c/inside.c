@@ -27,13 +27,15 @@ static int check(const struct expected *rows, size_t count)
 
 int main(void)
 {
-    /* the second is water that boils at 0.09 MPa: 369.837 K, which alone, below boiling at the pressure of the air, would open a door */
+    /* the second is water that boils at 0.09 MPa: 369.837 K, which alone, below boiling at the pressure of the air, would open a door; in region 5 every pressure that is found is inside */
     const struct expected rows[] = {
         {"water in the vessel", climboat_pv2T(CLIMBOAT_REGION_1, 0.2, 0.00103, CLIMBOAT_STEP_LIMIT), CLIMBOAT_ANSWERED, CLIMBOAT_INSIDE, true},
         {"water at boiling", climboat_pv2T(CLIMBOAT_REGION_1, 0.09, 0.0010408989121683818, CLIMBOAT_STEP_LIMIT), CLIMBOAT_ANSWERED, CLIMBOAT_OUTSIDE, false},
         {"steam beyond saturation", climboat_Tv2p(CLIMBOAT_REGION_2, 500.0, 0.07, CLIMBOAT_STEP_LIMIT), CLIMBOAT_ANSWERED, CLIMBOAT_OUTSIDE, false},
+        {"steam in the furnace", climboat_Ts2p(CLIMBOAT_REGION_5, 1500.0, 9.0, CLIMBOAT_STEP_LIMIT), CLIMBOAT_ANSWERED, CLIMBOAT_INSIDE, true},
         {"a call without a search", climboat_saturation_temperature(0.101325), CLIMBOAT_ANSWERED, CLIMBOAT_UNMARKED, true},
         {"a refusal", climboat_pv2T(CLIMBOAT_REGION_1, 1.0, 0.0009996, CLIMBOAT_STEP_LIMIT), CLIMBOAT_SAME_SIGN, CLIMBOAT_UNMARKED, false},
+        {"a pair that the region has not", climboat_pv2T(CLIMBOAT_REGION_5, 0.5, 1.3845, CLIMBOAT_STEP_LIMIT), CLIMBOAT_NOTHING_NAMED, CLIMBOAT_UNMARKED, false},
         {"steps spent, with a last point", climboat_Tv2p(CLIMBOAT_REGION_2, 500.0, 0.1, 5), CLIMBOAT_STEPS_SPENT, CLIMBOAT_UNMARKED, false},
     };
     size_t count = sizeof rows / sizeof rows[0];

@@ -15,7 +15,7 @@ static struct {
     uint32_t ten;        /* refused by 10 there, likewise */
     uint32_t unsettled;  /* 8 even there */
     uint32_t too_large;
-    uint32_t with_steps[2 * KINDS]; /* by region and kind */
+    search_counts with_steps;
 } count;
 
 static void fail(const char *what, const struct question *q, const struct climboat_answer *a, const struct climboat_answer *largest)
@@ -57,7 +57,7 @@ static void hold_under(struct question q, uint32_t limit, const struct climboat_
     }
 }
 
-/* Refused by 11, with nothing in the record but what was asked; a number that names nothing is refused before. */
+/* Refused by 11, with nothing in the record but what was asked; a number that names none of the call's is refused before. */
 static void hold_too_large(struct question q, const struct climboat_answer *largest)
 {
     struct climboat_answer a, owed = {0};
@@ -80,7 +80,7 @@ static void count_settled(const struct climboat_answer *a)
     count.answers += a->number == CLIMBOAT_ANSWERED;
     count.six += a->number == CLIMBOAT_RESIDUAL_NOT_FINITE;
     count.ten += a->number == CLIMBOAT_POINT_OUTSIDE;
-    count.with_steps[(a->region - 1) * KINDS + (uint32_t)a->kind - 1]++;
+    count.with_steps[a->region][a->kind]++;
 }
 
 static void hold(struct question q)
@@ -119,16 +119,10 @@ static void hold_at_end(struct question q)
     hold(q);
 }
 
-/* Whether every search took steps, in both regions, and one ended exactly: of what does not come up nothing is shown. */
+/* Whether every search took steps, in each region that it has, and one ended exactly: of what does not come up nothing is shown. */
 static bool came_up(void)
 {
-    uint32_t region, kind;
-    for (region = 0; region < 2; region++) {
-        for (kind = CLIMBOAT_KIND_PV; kind <= CLIMBOAT_KIND_TS; kind++) {
-            if (count.with_steps[region * KINDS + kind - 1] == 0) return false;
-        }
-    }
-    return count.exact_ends != 0 && count.too_large != 0;
+    return has_every_search(count.with_steps) && count.exact_ends != 0 && count.too_large != 0;
 }
 
 int main(void)

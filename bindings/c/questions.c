@@ -5,10 +5,22 @@
 #include <stdio.h>
 #include <string.h>
 
+const uint32_t regions[REGIONS] = {CLIMBOAT_REGION_1, CLIMBOAT_REGION_2, CLIMBOAT_REGION_5};
+
 /* The saturation line and B23 have one input, and no region. */
 bool has_two_inputs(enum climboat_kind kind)
 {
     return kind == CLIMBOAT_KIND_PT || target_of(kind) != CLIMBOAT_NO_PROPERTY;
+}
+
+bool has_region(enum climboat_kind kind, uint32_t region)
+{
+    size_t i;
+    if (!has_two_inputs(kind) || (kind == CLIMBOAT_KIND_PV && region == CLIMBOAT_REGION_5)) return false;
+    for (i = 0; i < REGIONS; i++) {
+        if (regions[i] == region) return true;
+    }
+    return false;
 }
 
 uint32_t target_of(enum climboat_kind kind)
@@ -20,6 +32,17 @@ uint32_t target_of(enum climboat_kind kind)
     case CLIMBOAT_KIND_TS: return CLIMBOAT_ENTROPY;
     default: return CLIMBOAT_NO_PROPERTY;
     }
+}
+
+bool has_every_search(search_counts counts)
+{
+    uint32_t i, kind;
+    for (i = 0; i < REGIONS; i++) {
+        for (kind = CLIMBOAT_KIND_PV; kind <= CLIMBOAT_KIND_TS; kind++) {
+            if (has_region((enum climboat_kind)kind, regions[i]) && counts[regions[i]][kind] == 0) return false;
+        }
+    }
+    return true;
 }
 
 bool is_bisection(const struct climboat_answer *answer)
@@ -69,11 +92,10 @@ void write_call(char *text, size_t size, const struct question *q)
     }
 }
 
-/* What the answer is to say: the number that was given, or 0 where the call takes none or it names nothing. */
+/* What the answer is to say: the number that was given, or 0 where the call takes none or it names none of the call's. */
 static uint32_t region_told(const struct question *q)
 {
-    bool named = q->region == CLIMBOAT_REGION_1 || q->region == CLIMBOAT_REGION_2;
-    return has_two_inputs(q->kind) && named ? q->region : CLIMBOAT_NO_REGION;
+    return has_region(q->kind, q->region) ? q->region : CLIMBOAT_NO_REGION;
 }
 
 static uint32_t property_told(const struct question *q)
@@ -140,7 +162,8 @@ double draw_subnormal(void)
 static double draw_edge(void)
 {
     static const double edges[] = {NAN,    -NAN,   INFINITY, -INFINITY, 0.0,    -0.0,    0x1p-1074, -0x1p-1074, DBL_MIN,        -DBL_MIN,          DBL_MAX, -DBL_MAX, 1.0,
-                                   273.15, 623.15, 647.096,  863.15,    1073.15, 1.0e-8, 22.064,    16.5291643, 0.000611212677, 0.000611212677444, 100.0,   0.001};
+                                   273.15, 623.15, 647.096,  863.15,    1073.15, 1.0e-8, 22.064,    16.5291643, 0.000611212677, 0.000611212677444, 100.0,   0.001,    50.0,
+                                   2273.15};
     double edge = edges[draw_below(sizeof edges / sizeof edges[0])];
     uint64_t bits;
     memcpy(&bits, &edge, sizeof bits);
@@ -164,20 +187,21 @@ static double draw_target(uint32_t property, uint32_t region, double p, double T
 {
     struct climboat_answer there = climboat_pT(region, property, p, T);
     if (climboat_is_answered(there)) return there.value;
-    return property == CLIMBOAT_VOLUME ? draw_exponents(-11, 24) : draw_between(-10.0, property == CLIMBOAT_ENTROPY ? 12.0 : 4500.0);
+    return property == CLIMBOAT_VOLUME ? draw_exponents(-11, 24) : draw_between(-10.0, property == CLIMBOAT_ENTROPY ? 12.0 : 7500.0);
 }
 
 static double ordinary_p(const struct question *q)
 {
     if (q->kind == CLIMBOAT_KIND_B23_TEMPERATURE) return draw_between(16.5291643, 100.0);
     if (q->kind == CLIMBOAT_KIND_SATURATION_TEMPERATURE) return draw_exponents(-11, 4);
-    return q->region == CLIMBOAT_REGION_1 ? draw_exponents(-3, 6) : draw_exponents(-27, 6);
+    return q->region == CLIMBOAT_REGION_1 ? draw_exponents(-3, 6) : draw_exponents(-27, q->region == CLIMBOAT_REGION_5 ? 5 : 6);
 }
 
 static double ordinary_T(const struct question *q)
 {
     if (q->kind == CLIMBOAT_KIND_B23_PRESSURE) return draw_between(623.15, 863.15);
     if (q->kind == CLIMBOAT_KIND_SATURATION_PRESSURE) return draw_between(273.15, 647.096);
+    if (q->region == CLIMBOAT_REGION_5) return draw_between(1073.15, 2273.15);
     return draw_between(273.15, q->region == CLIMBOAT_REGION_1 ? 623.15 : 1073.15);
 }
 
@@ -192,7 +216,8 @@ struct question draw_question(void)
     struct question q;
     double p, T;
     q.kind = (enum climboat_kind)(1 + draw_below(KINDS));
-    q.region = 1 + draw_below(2);
+    /* (p,v) has all but the last */
+    q.region = regions[draw_below(q.kind == CLIMBOAT_KIND_PV ? REGIONS - 1 : REGIONS)];
     q.property = 1 + draw_below(7);
     q.limit = limits[draw_below(sizeof limits / sizeof limits[0])];
     p = ordinary_p(&q);
@@ -205,8 +230,8 @@ struct question draw_question(void)
     q.first = draw_or(takes_p_first(q.kind) ? p : T);
     q.second = q.kind == CLIMBOAT_KIND_PT ? draw_or(T) : 0.0;
     if (target_of(q.kind) != CLIMBOAT_NO_PROPERTY) q.second = draw_or(draw_target(target_of(q.kind), q.region, p, T));
-    /* now and then a number that names nothing */
-    if (draw_below(128) == 0) q.region = 3 * draw_below(2);
+    /* now and then a number that names nothing, and for (p,v) also that of a region that it has not */
+    if (draw_below(128) == 0) q.region = q.kind == CLIMBOAT_KIND_PV && draw_below(2) == 0 ? CLIMBOAT_REGION_5 : 3 * draw_below(2);
     if (draw_below(128) == 0) q.property = 8 * draw_below(2);
     return q;
 }

@@ -6,6 +6,10 @@
 #include <stddef.h>
 
 #define KINDS 9u
+#define REGIONS 3u
+
+/* Every region, by its number. */
+extern const uint32_t regions[REGIONS];
 
 /* One call with its inputs; the region, the property, the limit and the second input count where the call has them. */
 struct question {
@@ -18,6 +22,13 @@ struct question {
 };
 
 bool has_two_inputs(enum climboat_kind kind);
+
+/* Whether the call has the region of this number: those that name a region have all of them, but for (p,v), which has no region 5. */
+bool has_region(enum climboat_kind kind, uint32_t region);
+
+/* A count for each region and kind, by their numbers; and whether every search has one above 0 in each region that it has. */
+typedef uint32_t search_counts[CLIMBOAT_REGION_5 + 1][KINDS + 1];
+bool has_every_search(search_counts counts);
 
 /* The property that a search has as its target; CLIMBOAT_NO_PROPERTY for a call that does not search. */
 uint32_t target_of(enum climboat_kind kind);
@@ -36,7 +47,7 @@ struct climboat_answer ask(const struct question *q);
 /* The question as the call that asks it. */
 void write_call(char *text, size_t size, const struct question *q);
 
-/* Whether the region or the property is given by a number that names nothing. */
+/* Whether the region or the property is given by a number that names none of the call's. */
 bool names_nothing(const struct question *q);
 
 /* Whether the answer says that it is of the question, with the same inputs bit for bit. */

@@ -11,9 +11,10 @@
 static struct {
     uint32_t outcomes;
     uint32_t by_number[CLIMBOAT_NOTHING_NAMED + 1];
-    uint32_t ends;        /* whose residual was computed again */
-    uint32_t left_out;    /* ends that lie where climboat_pT refuses */
-    uint32_t lower_alone; /* refused by 6 with the lower end's residual finite */
+    uint32_t ends;           /* whose residual was computed again */
+    search_counts by_search; /* these ends */
+    uint32_t left_out;       /* ends that lie where climboat_pT refuses */
+    uint32_t lower_alone;    /* refused by 6 with the lower end's residual finite */
     uint32_t upper_alone;
     uint32_t neither;
     uint32_t differ;
@@ -41,6 +42,7 @@ static bool is_given(const struct climboat_answer *a, double end, double given)
         return true;
     }
     count.ends++;
+    count.by_search[a->region][a->kind]++;
     again = residual(a, found.value);
     if (a->number == CLIMBOAT_RESIDUAL_NOT_FINITE && !isfinite(again)) again = 0.0;
     return same_bits(given, again);
@@ -112,7 +114,7 @@ static void hold_tiny_volume(void)
     hold(&Tv);
 }
 
-/* Whether every number that can be given was given, and 6 in each of its ways: of what does not come up nothing is shown. No question is known that is refused by 9 or 10. */
+/* Whether every number that can be given was given, and 6 in each of its ways, and ends of every search were computed again: of what does not come up nothing is shown. No question is known that is refused by 9 or 10. */
 static bool came_up(void)
 {
     static const uint32_t numbers[] = {0, 1, 2, 3, 4, 5, 6, 7, 8, 11, 21};
@@ -120,7 +122,7 @@ static bool came_up(void)
     for (i = 0; i < sizeof numbers / sizeof numbers[0]; i++) {
         if (count.by_number[numbers[i]] == 0) return false;
     }
-    return count.lower_alone != 0 && count.upper_alone != 0 && count.neither != 0;
+    return has_every_search(count.by_search) && count.lower_alone != 0 && count.upper_alone != 0 && count.neither != 0;
 }
 
 int main(void)
@@ -132,7 +134,7 @@ int main(void)
            (unsigned)count.by_number[CLIMBOAT_ANSWERED], (unsigned)count.by_number[CLIMBOAT_STEPS_SPENT], (unsigned)count.by_number[CLIMBOAT_RESIDUAL_NOT_FINITE],
            (unsigned)count.lower_alone, (unsigned)count.upper_alone, (unsigned)count.neither);
     if (count.differ != 0 || !came_up()) {
-        printf("%u differ from what climboat_pT gives%s\n", (unsigned)count.differ, came_up() ? "" : ", and not every number came up");
+        printf("%u differ from what climboat_pT gives%s\n", (unsigned)count.differ, came_up() ? "" : ", and not every number or search came up");
         return 1;
     }
     printf("at %u ends what climboat_pT gives again, bit for bit, %u ends left out since it refuses there; without a bracket 0 and 0\n", (unsigned)count.ends, (unsigned)count.left_out);

@@ -2,14 +2,18 @@
 use std::fs;
 use std::path::Path;
 
-/// The files of document 01's modules, with common/boundaries.rs for B23, under the Rust's module names.
-const MODULES: [(&str, &[&str]); 5] = [
+/// The files of document 01's modules, with common/boundaries.rs for B23, and region 5's, under the Rust's module names.
+const MODULES: [(&str, &[&str]); 6] = [
     ("algo", &["polynomial", "polynomial_steps", "root"]),
     ("common", &["boundaries", "constant"]),
     ("r1", &["region1_gfe", "region1_pT", "region1_pair_ext"]),
     ("r2", &["region2_gfe", "region2_pT", "region2_pair_ext"]),
     ("r4", &["region4_sat_pT"]),
+    ("r5", &["region5_gfe", "region5_sums", "region5_pT", "region5_pair_ext"]),
 ];
+
+/// Files that are made of another than the Rust's of that name: region 5 has region 2's operations (document 02, §2), over the tables of the Rust's region5_gfe.rs.
+const MADE_OF: [(&str, &str); 2] = [("r5/region5_sums.rs", "r2/region2_gfe.rs"), ("r5/region5_pT.rs", "r2/region2_pT.rs")];
 
 struct Edit {
     line: usize,
@@ -41,7 +45,8 @@ fn make() -> Result<(), String> {
         root += &format!("#[allow(warnings)]\npub mod {module} {{\n");
         for file in files {
             let place = format!("{module}/{file}.rs");
-            let text = edited(&place, read(&format!("{rust}/{place}"))?, &edits)?;
+            let of = MADE_OF.iter().find(|(made, _)| *made == place).map_or(place.as_str(), |(_, of)| of);
+            let text = edited(&place, read(&format!("{rust}/{of}"))?, &edits)?;
             let to = format!("{out}/{place}");
             write(&to, &text)?;
             root += &format!("    #[path = {to:?}]\n    pub mod {file};\n    pub use self::{file}::*;\n");

@@ -15,6 +15,7 @@ pub struct TimeBar {
 pub const CHECKED_CALL: TimeBar = TimeBar { most: 2.2, goal: 1.6 };
 pub const REGION_1_V: TimeBar = TimeBar { most: 1.2, goal: 0.9 };
 pub const PROPERTY: TimeBar = TimeBar { most: 1.8, goal: 1.2 };
+pub const REGION_5: TimeBar = TimeBar { most: 2.5, goal: 1.5 };
 pub const SEARCH: TimeBar = TimeBar { most: 1.5, goal: 1.1 };
 pub const SEARCH_BY_LOGARITHM: TimeBar = TimeBar { most: 1.6, goal: 1.1 };
 pub const SATURATION: TimeBar = TimeBar { most: 4.5, goal: 2.5 };

@@ -1,13 +1,13 @@
-//! What the fourteen properties take, the checked call and the searches, against the least that their longest chain of additions can take.
+//! What the twenty-one properties take, the checked call and the searches, against the least that their longest chain of additions can take.
 //! The order of a sum decides its bits, so a sum over a table is one chain: each addition waits for the one before.
 
 use crate::climboat;
-use crate::equations::{REGION_1, REGION_2};
+use crate::equations::{REGION_1, REGION_2, REGION_5};
 use crate::pairs::{LIMIT, SEARCHES};
-use crate::timing::{in_turn, inside_region_1, medians, pass, searched, states};
+use crate::timing::{in_turn, inside_region_1, medians, pass, place, searched, states};
 
-/// The rows of the release's Table 2, and of its Table 11: the 9 of Table 10 are a chain of their own that runs beside it, and so are the other sums of a property that needs more than one.
-const ADDITIONS: [u32; 2] = [34, 43];
+/// The rows of the release's Tables 2, 11 and 38: those of Table 10 and of Table 37 are a chain of their own that runs beside it, and so are the other sums of a property that needs more than one.
+const ADDITIONS: [u32; 3] = [34, 43, 6];
 
 pub fn tables() {
     let one = addition();
@@ -21,7 +21,7 @@ pub fn tables() {
 fn properties(one: f64) {
     println!("| property | additions in a row | at {one:.2} ns each | Climboat, calls that overlap | over the bound | Climboat, each call waiting for the one before | over the bound |");
     println!("|---|---|---|---|---|---|---|");
-    for ((rows, additions), states) in [&REGION_1, &REGION_2].into_iter().zip(ADDITIONS).zip(states()) {
+    for ((rows, additions), states) in [&REGION_1, &REGION_2, &REGION_5].into_iter().zip(ADDITIONS).zip(states()) {
         let bound = f64::from(additions) * one;
         for r in rows {
             let mut waiting = in_turn(|s: &(f64, f64), zero| (r.ours)(s.0 + zero, s.1 + zero));
@@ -37,7 +37,7 @@ fn calls(one: f64) {
     println!("| public call | evaluations one after the other, on average | their additions in a row | at {one:.2} ns each | Climboat | over the bound |");
     println!("|---|---|---|---|---|---|");
     let row = |name: &str, region: u32, evaluations: f64, mut pass: &mut dyn FnMut() -> f64| {
-        let additions = evaluations * f64::from(ADDITIONS[region as usize - 1]);
+        let additions = evaluations * f64::from(ADDITIONS[place(region)]);
         let [time] = medians([&mut pass]);
         println!("| {name} | {evaluations:.2} | {additions:.0} | {:.1} ns | {time:.1} ns | {:.2} |", additions * one, time / (additions * one));
     };

@@ -40,6 +40,13 @@ exports! {
     region2_cp(p: f64, t: f64) -> f64 = region2_cp;
     region2_cv(p: f64, t: f64) -> f64 = region2_cv;
     region2_w(p: f64, t: f64) -> f64 = region2_w;
+    region5_v(p: f64, t: f64) -> f64 = region5_v;
+    region5_u(p: f64, t: f64) -> f64 = region5_u;
+    region5_s(p: f64, t: f64) -> f64 = region5_s;
+    region5_h(p: f64, t: f64) -> f64 = region5_h;
+    region5_cp(p: f64, t: f64) -> f64 = region5_cp;
+    region5_cv(p: f64, t: f64) -> f64 = region5_cv;
+    region5_w(p: f64, t: f64) -> f64 = region5_w;
     saturation_pressure(t: f64) -> f64 = saturation_pressure;
     saturation_temperature(p: f64) -> f64 = saturation_temperature;
     b23_pressure(t: f64) -> f64 = b23_pressure;

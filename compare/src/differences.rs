@@ -1,4 +1,5 @@
-//! The eight pair searches against the original crate: how many answers differ, how far and why, each kind with the input that is shortest to write.
+//! The eleven pair searches against the original crate: how many answers differ, how far and why, each kind with the input that is shortest to write.
+//! What an answer is held to is the original's own property, and of region 5, where that has another order of operations, the test copy's.
 
 use crate::climboat::{self, Pair, Record, EXACT_END, LARGEST_LIMIT, NARROW, SMALL_RESIDUAL};
 use crate::draw::{same, Draw};
@@ -10,8 +11,12 @@ use std::panic;
 /// How near to an end of its interval a state lies where rounding may lose the answer of one alone: Climboat's T_saturation lies within 1.0e-9 of the original's, its region 2 s within 1.0e-12 (`compare equations`).
 const AT_END: f64 = 1.0e-9;
 
-/// Below which the original's bisections stop as narrow, both of them.
+/// Below which the original's bisections stop as narrow, all of them.
 pub const CRATES_WIDTH: f64 = 1.0e-6;
+
+/// From which on the original searches region 5, and the step at which its secants stop there.
+const CRATES_LEAST: f64 = 0.000611212677444;
+const SECANT_STEP: f64 = 1.0e-8;
 
 const SAME: &str = "the same double";
 const UNEXPLAINED: &str = "UNEXPLAINED";
@@ -50,15 +55,18 @@ fn differ(search: &Search, seed: u64) -> bool {
 fn round(search: &Search) -> Vec<Input> {
     let mut pressures = decades(1..=9, -9, 2);
     pressures.extend([0.000611212677444, 16.5291643]);
-    let mut temperatures: Vec<f64> = (270..=282).chain((3..=11).map(|n| 100 * n)).map(f64::from).collect();
-    temperatures.extend([273.15, 623.15, 863.15, 1073.15]);
+    let temperatures = round_temperatures(search.region);
     let targets: Vec<f64> = match search.pair {
         Pair::Pv | Pair::Tv => [decades(1..=9, -4, 7), vec![0.0, 5.0e-324]].concat(),
-        Pair::Th => (-10..=50).map(|n| 100.0 * f64::from(n)).chain((1..=9).map(f64::from)).collect(),
-        Pair::Ts => (-4..=26).map(|n| 0.5 * f64::from(n)).collect(),
+        Pair::Th => (-10..=if search.region == 5 { 75 } else { 50 }).map(|n| 100.0 * f64::from(n)).chain((1..=9).map(f64::from)).collect(),
+        Pair::Ts => (-4..=if search.region == 5 { 40 } else { 26 }).map(|n| 0.5 * f64::from(n)).collect(),
     };
     let (fixed, points) = if search.seeks_t() { (pressures, temperatures) } else { (temperatures, pressures) };
-    let at_ends = if search.seeks_t() { decades(10..=99, -9, 1) } else { (273..=1073).map(f64::from).collect() };
+    let at_ends = match (search.seeks_t(), search.region) {
+        (true, _) => decades(10..=99, -9, 1),
+        (false, 5) => (1074..=2273).map(f64::from).collect(),
+        (false, _) => (273..=1073).map(f64::from).collect(),
+    };
     let mut inputs = Vec::new();
     for &fixed in &fixed {
         inputs.extend(targets.iter().map(|&target| Input { fixed, target, of: None }));
@@ -73,6 +81,14 @@ fn round(search: &Search) -> Vec<Input> {
     }
     inputs.retain(|input| input.of.is_none_or(|x| search.inside(search.state(input.fixed, x))));
     inputs
+}
+
+fn round_temperatures(region: u32) -> Vec<f64> {
+    let (whole, edges): (Vec<i32>, &[f64]) = match region {
+        5 => ((10..=23).map(|n| 100 * n).collect(), &[1073.15, 2273.15]),
+        _ => ((270..=282).chain((3..=11).map(|n| 100 * n)).collect(), &[273.15, 623.15, 863.15, 1073.15]),
+    };
+    whole.into_iter().map(f64::from).chain(edges.iter().copied()).collect()
 }
 
 /// The doubles of so many digits, from one power of ten to another.
@@ -160,6 +176,7 @@ impl Search {
             _ if !self.says_what(input.fixed, input.target, &ours) || !self.stays(input.fixed, input.target, &ours) => UNEXPLAINED.into(),
             (0, Some(y)) => self.both(input, ours, y).into(),
             (0, None) if self.at_end(input.fixed, input.of.unwrap_or(ours.value)) => "answered, the original panics: at an end".into(),
+            (0, None) if self.below_the_crates(&ours) => "answered, the original panics: below its own lower end".into(),
             (7, None) if input.of.is_some_and(|x| self.at_end(input.fixed, x)) => "refused by 7, the original panics: at an end".into(),
             (7, None) if input.of.is_some() => "refused by 7 though a state has the target, the original panics".into(),
             (number @ 1..=7, None) => format!("refused by {number}, the original panics{from}"),
@@ -168,6 +185,7 @@ impl Search {
             (5, Some(_)) if high - low <= AT_END => "refused by 5, the original answers".into(),
             (6, Some(_)) if [ours.lower, ours.upper].iter().any(|&x| !self.residual(input.fixed, input.target, x).is_finite()) => "refused by 6, the original answers".into(),
             (7, Some(y)) if self.at_end(input.fixed, input.of.unwrap_or(y)) => "refused by 7, the original answers: at an end".into(),
+            (7, Some(_)) if self.by_secants() && input.of.is_none() => "refused by 7, the original's secants answer".into(),
             _ => UNEXPLAINED.into(),
         }
     }
@@ -175,13 +193,15 @@ impl Search {
     /// The kind of two answers. Ours must satisfy the reason that it gives.
     fn both(&self, input: &Input, ours: Record, y: f64) -> &'static str {
         let x = ours.value;
-        let (reach, theirs) = (self.our_reach(&ours), self.reach(y, CRATES_WIDTH));
+        let (reach, theirs) = (self.our_reach(&ours), self.their_reach(y));
         if !self.stopped(input, x, ours.reason, reach) {
             UNEXPLAINED
         } else if same(x, y) {
             SAME
         } else if (x - y).abs() <= reach + theirs {
             "no farther apart than both stops allow"
+        } else if self.below_the_crates(&ours) {
+            "below the original's own lower end"
         } else if self.small(input, y) && self.small(input, 0.5 * (x + y)) {
             "judged by residual: both in one band of small residuals"
         } else if ours.reason != EXACT_END {
@@ -227,6 +247,25 @@ impl Search {
             0.5 * width
         } else {
             2.0 * (2.0 * 3.0e-8 * x.abs() + 0.5e-8)
+        }
+    }
+
+    /// Whether the original looks for it in region 5 by secants, which keep no bracket; it has (T,v) by bisection.
+    fn by_secants(&self) -> bool {
+        self.region == 5 && self.pair != Pair::Tv
+    }
+
+    /// Whether ours lies where the original does not search region 5, or within its stop of there.
+    fn below_the_crates(&self, ours: &Record) -> bool {
+        self.region == 5 && ours.value < CRATES_LEAST + CRATES_WIDTH
+    }
+
+    /// Of the original's answer: as ours, but for region 5, where it searches in other ways.
+    fn their_reach(&self, y: f64) -> f64 {
+        match self.region {
+            5 if self.by_secants() => SECANT_STEP,
+            5 => 0.5 * CRATES_WIDTH,
+            _ => self.reach(y, CRATES_WIDTH),
         }
     }
 

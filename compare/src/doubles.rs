@@ -4,9 +4,8 @@ use crate::climboat::{Record, EXACT_END, INSIDE, NARROW, OUTSIDE, SMALL_RESIDUAL
 use crate::draw::Draw;
 use crate::patience::{Outcome, Turned};
 use crate::plausible;
-use crate::question::{Question, LINES, PAIRS};
+use crate::question::{Question, LINES, PAIRS, PV_REGIONS, REGIONS};
 use copy::run::same_sign;
-use std::ops::RangeInclusive;
 use std::thread;
 
 /// Pairs of each kind if no number is given.
@@ -22,6 +21,8 @@ const THREADS: u64 = 2;
 
 /// The numbers of the table that a call gives.
 const NUMBERS: [u32; 12] = [1, 2, 3, 4, 5, 6, 7, 8, 9, 10, 11, 21];
+
+const PROPERTIES: [u32; 7] = [1, 2, 3, 4, 5, 6, 7];
 
 type Kind = fn(&mut Draw) -> (f64, f64);
 
@@ -80,23 +81,24 @@ fn asked(kind: Kind, seed: u64, n: u64, first: u64) -> Counts {
 /// Every call with one pair: the lines take each of the two, the searches a limit of their own.
 fn questions(draw: &mut Draw, a: f64, b: f64) -> Vec<Question> {
     let mut list = Vec::new();
-    for region in [1, 2] {
+    for region in REGIONS {
         list.extend((1..=7).map(|property| Question::Property(region, property, a, b)));
         list.extend(PAIRS.map(|pair| Question::Search(pair, region, a, b, plausible::limit(draw))));
     }
     list.extend(LINES.into_iter().flat_map(|line| [a, b].map(|x| Question::Line(line, x))));
-    let region = unknown(draw, 1..=2);
+    let region = unknown(draw, &REGIONS);
     list.push(Question::Property(region, 1 + draw.below(7) as u32, a, b));
-    list.push(Question::Property(1 + draw.below(2) as u32, unknown(draw, 1..=7), a, b));
+    let known = REGIONS[draw.below(3) as usize];
+    list.push(Question::Property(known, unknown(draw, &PROPERTIES), a, b));
     list.extend(PAIRS.map(|pair| Question::Search(pair, region, a, b, plausible::limit(draw))));
     list
 }
 
-/// A number of any size that names nothing.
-fn unknown(draw: &mut Draw, known: RangeInclusive<u32>) -> u32 {
+/// A number of any size that names nothing: one that does is raised by the largest that does.
+fn unknown(draw: &mut Draw, known: &[u32]) -> u32 {
     let any = draw.bits() as u32 >> draw.below(32);
     if known.contains(&any) {
-        any + known.end()
+        any + known[known.len() - 1]
     } else {
         any
     }
@@ -125,14 +127,15 @@ fn formed(question: &Question, record: &Record) -> bool {
 fn says_what(question: &Question, record: &Record) -> bool {
     let Record { number, region, kind, property, first, second, .. } = *record;
     let inputs = [first, second].map(f64::to_bits) == question.inputs().map(f64::to_bits);
-    let (regions, properties) = match kind {
-        1 => (1..=2, 1..=7),
-        2..=5 => (0..=0, 0..=0),
-        6..=9 => (1..=2, 0..=0),
+    let (regions, properties): (&[u32], &[u32]) = match kind {
+        1 => (&REGIONS, &PROPERTIES),
+        2..=5 => (&[0], &[0]),
+        6 => (&PV_REGIONS, &[0]),
+        7..=9 => (&REGIONS, &[0]),
         _ => return false,
     };
     // 21 alone may lack what its call names
-    let named = |range: RangeInclusive<u32>, n: u32| range.contains(&n) || (number == 21 && n == 0);
+    let named = |list: &[u32], n: u32| list.contains(&n) || (number == 21 && n == 0);
     inputs && kind == question.kind() && named(regions, region) && named(properties, property)
 }
 
@@ -143,16 +146,17 @@ struct Counts {
     differ: u64,
 }
 
-const ROWS: usize = 30;
+/// For each kind a row where a number names nothing, and one for each region.
+const OF_A_KIND: usize = 1 + REGIONS.len();
+const ROWS: usize = 10 * OF_A_KIND;
 const REFUSALS: usize = 22;
 const OUTCOMES: usize = REFUSALS + 15;
 
 fn row(question: &Question) -> usize {
-    let region = match *question {
-        Question::Property(region @ 1..=2, 1..=7, ..) | Question::Search(_, region @ 1..=2, ..) => region,
-        _ => 0,
-    };
-    (3 * question.kind() + region) as usize
+    let asked = question.asked();
+    let nothing_named = asked.kind == 1 && asked.property == 0;
+    let region = REGIONS.iter().position(|&region| region == asked.region && !nothing_named);
+    OF_A_KIND * asked.kind as usize + region.map_or(0, |place| 1 + place)
 }
 
 fn outcome(record: &Record) -> usize {
@@ -202,8 +206,12 @@ impl Counts {
 
     fn print(&self) {
         for (row, met) in self.met.iter().enumerate().filter(|(_, met)| met.iter().any(|&n| n > 0)) {
-            let call = ["", "(p,T)", "saturation pressure", "saturation temperature", "B23 pressure", "B23 temperature", "(p,v)", "(T,v)", "(T,h)", "(T,s)"][row / 3];
-            let region = if (6..18).contains(&row) { "" } else { ["an unknown region or property, ", "region 1 ", "region 2 "][row % 3] };
+            let call = ["", "(p,T)", "saturation pressure", "saturation temperature", "B23 pressure", "B23 temperature", "(p,v)", "(T,v)", "(T,h)", "(T,s)"][row / OF_A_KIND];
+            let region = match (row / OF_A_KIND, row % OF_A_KIND) {
+                (2..=5, _) => String::new(),
+                (_, 0) => String::from("an unknown region or property, "),
+                (_, place) => format!("region {} ", REGIONS[place - 1]),
+            };
             let parts: Vec<String> = met.iter().enumerate().filter(|(_, n)| **n > 0).map(|(outcome, n)| format!("{n} {}", told(outcome))).collect();
             println!("  {region}{call}: {}", parts.join(", "));
         }

@@ -3,7 +3,7 @@
 use crate::climboat::{self, Pair};
 use crate::draw::{same, Draw};
 use crate::equations::{beside, region_2, states_of_region_2};
-use crate::page;
+use crate::page::{self, grouped};
 use crate::pairs::search;
 use crate::tally::Tally;
 use copy::common::constant::RGAS_WATER;
@@ -243,13 +243,5 @@ fn written(states: &[State]) -> String {
         [(p, t), (other, same)] if t == same => format!("T = {t:?}, p = {p:?} and {other:?}"),
         [(p, t), (_, other)] => format!("p = {p:?}, T = {t:?} and {other:?}"),
         _ => states.iter().map(|(p, t)| format!("p = {p:?}, T = {t:?}")).collect(),
-    }
-}
-
-/// In groups of three digits.
-fn grouped(n: u64) -> String {
-    match n {
-        0..1_000 => n.to_string(),
-        _ => format!("{},{:03}", grouped(n / 1_000), n % 1_000),
     }
 }

@@ -1,15 +1,18 @@
-//! The equations of regions 1 and 2, the saturation line and B23 against the original crate.
+//! The equations of regions 1 and 2, the saturation line and B23 against the original crate; those of region 5, whose operations are in another order than the original's, against the test copy.
 
 use crate::bars::{self, TimeBar};
 use crate::climboat;
 use crate::draw::{same, Draw};
+use crate::plausible::magnitude;
 use crate::tally::Tally;
+use copy::r5::region5_pT as copy5;
 use original::common::boundaries::{B23_T2p, B23_p2T};
 use original::r1::region1_pT as r1;
 use original::r2::region2_pT as r2;
 use original::r4::region4_sat_pT::{T_saturation, p_saturation};
+use original::r5::region5_pT as r5;
 
-type Property = fn(f64, f64) -> f64;
+pub type Property = fn(f64, f64) -> f64;
 
 /// How far Climboat's double may lie from the original's: not at all, or by so much.
 #[derive(Clone, Copy)]
@@ -24,13 +27,20 @@ pub struct Row {
     pub name: &'static str,
     pub ours: Property,
     pub rusts: Property,
+    /// what ours is held against: the original's, or the test copy's
+    pub against: Property,
     pub bar: Bar,
     /// how long it may take
     pub time: Option<TimeBar>,
 }
 
 const fn row(name: &'static str, ours: Property, rusts: Property, bar: Bar) -> Row {
-    Row { name, ours, rusts, bar, time: None }
+    Row { name, ours, rusts, against: rusts, bar, time: None }
+}
+
+/// Of region 5: the test copy has the same operations.
+const fn row_5(name: &'static str, ours: Property, rusts: Property, copys: Property) -> Row {
+    Row { name, ours, rusts, against: copys, bar: Bar::Bits, time: Some(bars::REGION_5) }
 }
 
 impl Row {
@@ -59,16 +69,30 @@ pub const REGION_2: [Row; 7] = [
     row("region 2 w", climboat::region2_w, r2::pT2w_reg2, Bar::Bits).in_time(bars::PROPERTY),
 ];
 
+pub const REGION_5: [Row; 7] = [
+    row_5("region 5 v", climboat::region5_v, r5::pT2v_reg5, copy5::pT2v_reg5),
+    row_5("region 5 u", climboat::region5_u, r5::pT2u_reg5, copy5::pT2u_reg5),
+    row_5("region 5 s", climboat::region5_s, r5::pT2s_reg5, copy5::pT2s_reg5),
+    row_5("region 5 h", climboat::region5_h, r5::pT2h_reg5, copy5::pT2h_reg5),
+    row_5("region 5 cp", climboat::region5_cp, r5::pT2cp_reg5, copy5::pT2cp_reg5),
+    row_5("region 5 cv", climboat::region5_cv, r5::pT2cv_reg5, copy5::pT2cv_reg5),
+    row_5("region 5 w", climboat::region5_w, r5::pT2w_reg5, copy5::pT2w_reg5),
+];
+
 /// Every equation; whether all kept their bar.
 pub fn compare() -> bool {
     let one = states(0x0c1b_0a70_0000_0011, region_1);
     let two = states_of_region_2();
+    let five = states(0x0c1b_0a70_0000_0014, region_5);
     let mut good = true;
     for r in &REGION_1 {
         good &= hold(r, &one);
     }
     for r in &REGION_2 {
         good &= hold(r, &two);
+    }
+    for r in &REGION_5 {
+        good &= hold(r, &five);
     }
     good & lines()
 }
@@ -77,7 +101,7 @@ fn hold(row: &Row, states: &[(f64, f64)]) -> bool {
     let mut tally = Tally::new(row.name);
     let mut largest = 0.0f64;
     for &(p, t) in states {
-        let (a, b) = ((row.ours)(p, t), (row.rusts)(p, t));
+        let (a, b) = ((row.ours)(p, t), (row.against)(p, t));
         let distance = (a - b).abs();
         largest = largest.max(distance);
         let kept = match row.bar {
@@ -85,7 +109,7 @@ fn hold(row: &Row, states: &[(f64, f64)]) -> bool {
             Bar::Within(most) => distance <= most,
             Bar::Told => true,
         };
-        tally.check(kept, || format!("p = {p:e}, T = {t:e}: {a:e}, the Rust {b:e}"));
+        tally.check(kept, || format!("p = {p:e}, T = {t:e}: {a:e}, the other {b:e}"));
     }
     let more = match row.bar {
         Bar::Bits => String::from(", bit for bit"),
@@ -169,6 +193,28 @@ pub fn region_2(draw: &mut Draw, kind: u64) -> (f64, f64) {
         0 => beside(draw, 1.0e-8),
         1 => beside(draw, 100.0),
         _ => beside(draw, most(t.clamp(273.15, 1073.15))),
+    };
+    // below 1.0e-8 lies no region, and Climboat's logarithm is NaN
+    (p.max(1.0e-8), t)
+}
+
+/// Of every magnitude without a library's logarithm, so that the states are the same on every machine.
+pub fn region_5(draw: &mut Draw, kind: u64) -> (f64, f64) {
+    if kind < 2 {
+        let t = draw.between(1073.15, 2273.15);
+        let p = if kind == 0 { draw.between(1.0e-8, 50.0) } else { magnitude(draw, 1.0e-8, 50.0) };
+        return (p, t);
+    }
+    let t = match draw.below(3) {
+        0 => draw.between(1073.15, 2273.15),
+        1 => beside(draw, 1073.15),
+        _ => beside(draw, 2273.15),
+    };
+    let p = match draw.below(4) {
+        0 => beside(draw, 1.0e-8),
+        1 => beside(draw, 50.0),
+        2 => draw.between(1.0e-8, 50.0),
+        _ => magnitude(draw, 1.0e-8, 50.0),
     };
     // below 1.0e-8 lies no region, and Climboat's logarithm is NaN
     (p.max(1.0e-8), t)

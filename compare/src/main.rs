@@ -1,4 +1,4 @@
-//! Climboat against Rust: `compare helpers` compares the float helpers, `compare nans` asks every call with every kind of NaN, `compare equations` the equations with the original crate and region 1's door check with the refusal table read a second time, `compare searches` the pair searches with its test copy and with itself, `compare doubles` any two doubles with the refusal table and the steps of bisection read a second time, `compare recorded` makes the answers that crates/replay keeps, `compare vacuum` searches region 2 (T,v) from a low vacuum upwards and makes a table of docs/DIFFERENCES.md, `compare entropy` holds region 2's entropy and differences of two against the original crate and makes another, `compare timing` prints the tables of docs/SPEED.md, with `--bars` also which of their bars were missed, `compare desk` prints the times and `compare desk states` the states and answers that compare/desk holds against a steam table in Python.
+//! Climboat against Rust: `compare helpers` compares the float helpers, `compare nans` asks every call with every kind of NaN, `compare equations` the equations with the original crate, region 5's with its test copy, and region 1's door check with the refusal table read a second time, `compare searches` the pair searches with its test copy and with itself, `compare doubles` any two doubles with the refusal table and the steps of bisection read a second time, `compare recorded` makes the answers that crates/replay keeps, `compare vacuum` searches region 2 (T,v) from a low vacuum upwards and makes a table of docs/DIFFERENCES.md, `compare entropy` holds region 2's entropy and differences of two against the original crate and makes another, `compare region5` holds region 5 against the original crate and beside region 2 and makes two more, `compare timing` prints the tables of docs/SPEED.md, with `--bars` also which of their bars were missed, `compare desk` prints the times and `compare desk states` the states and answers that compare/desk holds against a steam table in Python.
 
 mod bars;
 #[cfg(feature = "original")]
@@ -31,6 +31,8 @@ mod plausible;
 mod question;
 #[cfg(feature = "original")]
 mod recorded;
+#[cfg(feature = "original")]
+mod region5;
 mod roots;
 #[cfg(feature = "original")]
 mod searches;
@@ -60,6 +62,8 @@ fn main() -> ExitCode {
         ["vacuum", ref words @ ..] => told(vacuum::command(words)),
         #[cfg(feature = "original")]
         ["entropy", ref words @ ..] => told(entropy::command(words)),
+        #[cfg(feature = "original")]
+        ["region5", ref words @ ..] => told(region5::command(words)),
         ["timing"] => {
             timing::tables();
             ExitCode::SUCCESS
@@ -74,7 +78,7 @@ fn main() -> ExitCode {
         ["desk"] => done(desk::print_times),
         ["desk", "states"] => done(desk::print_states),
         _ => {
-            eprintln!("usage: compare helpers | nans | equations | searches | doubles [N] | recorded [FOLDER | --check] | vacuum [--check] | entropy [--check] | timing [--bars] | desk [states] (helpers, nans, timing without --bars and desk alone where the original crate is not at hand)");
+            eprintln!("usage: compare helpers | nans | equations | searches | doubles [N] | recorded [FOLDER | --check] | vacuum [--check] | entropy [--check] | region5 [--check] | timing [--bars] | desk [states] (helpers, nans, timing without --bars and desk alone where the original crate is not at hand)");
             ExitCode::from(2)
         }
     }

@@ -2,7 +2,7 @@
 
 use crate::climboat::{Pair, Record, LARGEST_LIMIT};
 use crate::draw::Draw;
-use crate::question::{Question, LINES, PAIRS};
+use crate::question::{Question, LINES, PAIRS, REGIONS};
 use crate::tally::Tally;
 
 /// Pairs of NaN that are drawn.
@@ -12,7 +12,7 @@ const SIGN: u64 = 1 << 63;
 const INFINITE: u64 = 0x7ff << 52;
 const QUIET: u64 = 1 << 51;
 
-/// Regions and properties of (p,T) that name nothing, beside the fourteen that do.
+/// Regions and properties of (p,T) that name nothing, beside the twenty-one that do.
 const NOTHING_NAMED: [(u32, u32); 7] = [(0, 1), (3, 7), (u32::MAX, 4), (1, 0), (2, 8), (1, u32::MAX), (0, 0)];
 
 /// The number that refuses an input of a kind which is nearer to zero than every normal double, first and second; 0 where none does. A volume must be above zero.
@@ -79,18 +79,28 @@ fn searched(question: &Question, ours: Record) -> Record {
 /// Every call with x in each place beside an ordinary number, and with x and y together, also where nothing is named and where the limit is too large.
 fn questions(x: f64, y: f64) -> Vec<Question> {
     let mut list: Vec<Question> = LINES.map(|line| Question::Line(line, x)).into();
-    let named = [1, 2].into_iter().flat_map(|region| (1..=7).map(move |property| (region, property)));
+    let named = REGIONS.into_iter().flat_map(|region| (1..=7).map(move |property| (region, property)));
     for (region, property) in named.chain(NOTHING_NAMED) {
-        list.extend([(x, 300.0), (1.0, x), (x, y)].map(|(p, t)| Question::Property(region, property, p, t)));
+        list.extend([(x, ordinary(region)), (1.0, x), (x, y)].map(|(p, t)| Question::Property(region, property, p, t)));
     }
     for pair in PAIRS {
-        let ordinary = if pair == Pair::Pv { 1.0 } else { 300.0 };
-        for (fixed, target) in [(x, 1.0), (ordinary, x), (x, y)] {
-            let limits = |region| [0, LARGEST_LIMIT, LARGEST_LIMIT + 1].map(|limit| Question::Search(pair, region, fixed, target, limit));
-            list.extend([1, 2, 3].into_iter().flat_map(limits));
+        for region in REGIONS.into_iter().chain([3]) {
+            let ordinary = if pair == Pair::Pv { 1.0 } else { ordinary(region) };
+            let inputs = [(x, 1.0), (ordinary, x), (x, y)];
+            let limits = |(fixed, target)| [0, LARGEST_LIMIT, LARGEST_LIMIT + 1].map(|limit| Question::Search(pair, region, fixed, target, limit));
+            list.extend(inputs.into_iter().flat_map(limits));
         }
     }
     list
+}
+
+/// A temperature of the region.
+fn ordinary(region: u32) -> f64 {
+    if region == 5 {
+        1500.0
+    } else {
+        300.0
+    }
 }
 
 /// 21, then document 01's order: 11, 1, 2, 3, 4; none where the inputs pass.

@@ -1,13 +1,15 @@
-//! The eight pair searches, each as Climboat, the test copy and the original crate have it, and the states at which they are compared.
+//! The eleven pair searches, each as Climboat, the test copy and the original crate have it, and the states at which they are compared.
 
 use crate::bars::{self, TimeBar};
 use crate::climboat::{Pair, Record, LARGEST_LIMIT};
 use crate::draw::Draw;
-use crate::equations::{most, region_1, region_2};
+use crate::equations::{most, region_1, region_2, region_5};
 use crate::patience::Outcome;
 use crate::question::Question;
 use copy::r1::region1_pair_ext as copy1;
 use copy::r2::region2_pair_ext as copy2;
+use copy::r5::region5_pT as copy5;
+use copy::r5::region5_pair_ext as copy5_pairs;
 use copy::run::Run;
 use original::common::boundaries::{B23_T2p, B23_p2T};
 use original::r1::region1_pT as r1;
@@ -15,6 +17,7 @@ use original::r1::region1_pair_ext as pairs1;
 use original::r2::region2_pT as r2;
 use original::r2::region2_pair_ext as pairs2;
 use original::r4::region4_sat_pT::{T_saturation, p_saturation};
+use original::r5::region5_pair_ext as pairs5;
 
 pub type Function = fn(f64, f64) -> f64;
 
@@ -29,6 +32,7 @@ pub struct Search {
     pub width: Option<fn(f64) -> f64>,
     /// between which ends, for the input that is fixed
     pub ends: fn(f64) -> (f64, f64),
+    /// the original's; of region 5, which has another order of operations, the test copy's
     pub property: Function,
     pub copys: fn(f64, f64, i32) -> Run,
     pub rusts: Function,
@@ -37,7 +41,7 @@ pub struct Search {
 }
 
 #[rustfmt::skip]
-pub const SEARCHES: [Search; 8] = [
+pub const SEARCHES: [Search; 11] = [
     Search { name: "region 1 (p,v) to T", region: 1, pair: Pair::Pv, width: Some(|_| 1.0e-6), ends: |p| (273.15, if p >= 16.5291643 { 623.15 } else { T_saturation(p) }), property: r1::pT2v_reg1, copys: copy1::pv2T_reg1, rusts: pairs1::pv2T_reg1, time: Some(bars::SEARCH) },
     Search { name: "region 1 (T,v) to p", region: 1, pair: Pair::Tv, width: None, ends: |t| (p_saturation(t), 100.0), property: r1::pT2v_reg1, copys: copy1::Tv2p_reg1, rusts: pairs1::Tv2p_reg1, time: Some(bars::SEARCH) },
     Search { name: "region 1 (T,h) to p", region: 1, pair: Pair::Th, width: None, ends: |t| (p_saturation(t), 100.0), property: r1::pT2h_reg1, copys: copy1::Th2p_reg1, rusts: pairs1::Th2p_reg1, time: Some(bars::SEARCH) },
@@ -46,10 +50,13 @@ pub const SEARCHES: [Search; 8] = [
     Search { name: "region 2 (T,v) to p", region: 2, pair: Pair::Tv, width: Some(|upper| 1.0e-6 * upper), ends: |_| (1.0e-8, 100.0), property: r2::pT2v_reg2, copys: copy2::Tv2p_reg2, rusts: pairs2::Tv2p_reg2, time: Some(bars::SEARCH) },
     Search { name: "region 2 (T,h) to p", region: 2, pair: Pair::Th, width: None, ends: |_| (1.0e-8, 100.0), property: r2::pT2h_reg2, copys: copy2::Th2p_reg2, rusts: pairs2::Th2p_reg2, time: Some(bars::SEARCH) },
     Search { name: "region 2 (T,s) to p", region: 2, pair: Pair::Ts, width: None, ends: |t| (1.0e-8, highest(t)), property: r2::pT2s_reg2, copys: copy2::Ts2p_reg2, rusts: pairs2::Ts2p_reg2, time: Some(bars::SEARCH_BY_LOGARITHM) },
+    Search { name: "region 5 (T,v) to p", region: 5, pair: Pair::Tv, width: None, ends: |_| (1.0e-8, 50.0), property: copy5::pT2v_reg5, copys: copy5_pairs::Tv2p_reg5, rusts: pairs5::Tv2p_reg5, time: None },
+    Search { name: "region 5 (T,h) to p", region: 5, pair: Pair::Th, width: None, ends: |_| (1.0e-8, 50.0), property: copy5::pT2h_reg5, copys: copy5_pairs::Th2p_reg5, rusts: pairs5::Th2p_reg5, time: None },
+    Search { name: "region 5 (T,s) to p", region: 5, pair: Pair::Ts, width: None, ends: |_| (1.0e-8, 50.0), property: copy5::pT2s_reg5, copys: copy5_pairs::Ts2p_reg5, rusts: pairs5::Ts2p_reg5, time: None },
 ];
 
 pub fn search(region: u32, pair: Pair) -> &'static Search {
-    SEARCHES.iter().find(|search| search.region == region && search.pair == pair).expect("one of the eight")
+    SEARCHES.iter().find(|search| search.region == region && search.pair == pair).expect("one of the eleven")
 }
 
 /// The highest pressure of region 2 at t, beyond its range as the original has it: it keeps its own to itself.
@@ -104,13 +111,13 @@ impl Search {
         }
     }
 
-    /// The property at x, by the original.
+    /// The property at x.
     pub fn at(&self, fixed: f64, x: f64) -> f64 {
         let (p, t) = self.state(fixed, x);
         (self.property)(p, t)
     }
 
-    /// Document 01's residual at x, by the original's own property.
+    /// Document 01's residual at x.
     pub fn residual(&self, fixed: f64, target: f64, x: f64) -> f64 {
         let found = self.at(fixed, x);
         if self.bisection() {
@@ -126,7 +133,8 @@ impl Search {
             (1, true) => 0.000611212677444..=100.0,
             (1, false) => 273.15..=623.15,
             (_, true) => 1.0e-8..=100.0,
-            (_, false) => 273.15..=1073.15,
+            (2, false) => 273.15..=1073.15,
+            (_, false) => 1073.15..=2273.15,
         };
         let volume = matches!(self.pair, Pair::Pv | Pair::Tv);
         range.contains(&fixed) && target.is_finite() && (target > 0.0 || !volume)
@@ -134,10 +142,10 @@ impl Search {
 
     /// The (p,T) rule.
     pub fn inside(&self, (p, t): (f64, f64)) -> bool {
-        if self.region == 1 {
-            (273.15..=623.15).contains(&t) && (p_saturation(t)..=100.0).contains(&p)
-        } else {
-            (273.15..=1073.15).contains(&t) && (1.0e-8..=100.0).contains(&p) && p <= most(t)
+        match self.region {
+            1 => (273.15..=623.15).contains(&t) && (p_saturation(t)..=100.0).contains(&p),
+            2 => (273.15..=1073.15).contains(&t) && (1.0e-8..=100.0).contains(&p) && p <= most(t),
+            _ => (1073.15..=2273.15).contains(&t) && (1.0e-8..=50.0).contains(&p),
         }
     }
 
@@ -148,7 +156,11 @@ impl Search {
     }
 
     pub fn drawn(&self, draw: &mut Draw, kind: u64) -> (f64, f64) {
-        let (p, t) = if self.region == 1 { region_1(draw, kind) } else { region_2(draw, kind) };
+        let (p, t) = match self.region {
+            1 => region_1(draw, kind),
+            2 => region_2(draw, kind),
+            _ => region_5(draw, kind),
+        };
         if self.seeks_t() {
             (p, t)
         } else {

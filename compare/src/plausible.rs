@@ -8,6 +8,10 @@ use crate::table::{Search, SEARCHES};
 pub const PRESSURES: [f64; 9] = [1.0e-8, 0.000611212677, 0.000611212677444, 0.000611213, 16.52916425260451, 16.5291643, 22.064, 100.0, 6.112126774443457e-4];
 pub const TEMPERATURES: [f64; 5] = [273.15, 623.15, 647.096, 863.15, 1073.15];
 
+/// Where region 5 begins and stops.
+pub const PRESSURES_5: [f64; 2] = [1.0e-8, 50.0];
+pub const TEMPERATURES_5: [f64; 2] = [1073.15, 2273.15];
+
 /// The one NaN that is drawn: the bits of a NaN that arithmetic makes are left open.
 pub const NAN: f64 = f64::from_bits(0x7ff8_0000_0000_0000);
 
@@ -75,12 +79,36 @@ pub fn state(draw: &mut Draw) -> (f64, f64) {
     (p, t)
 }
 
+/// About region 5. What is drawn for the other two is recorded, so they keep their own.
+pub fn state_5(draw: &mut Draw) -> (f64, f64) {
+    let p = match draw.below(6) {
+        0 => draw.between(0.0, 51.0),
+        1..=3 => magnitude(draw, 1.0e-9, 60.0),
+        _ => {
+            let edge = one_of(draw, &PRESSURES_5);
+            beside(draw, edge)
+        }
+    };
+    (p, temperature_5(draw))
+}
+
+pub fn temperature_5(draw: &mut Draw) -> f64 {
+    match draw.below(4) {
+        0 | 1 => draw.between(1070.0, 2280.0),
+        _ => {
+            let edge = one_of(draw, &TEMPERATURES_5);
+            beside(draw, edge)
+        }
+    }
+}
+
 /// Of every four, three in the range of what is fixed.
 pub fn fixed(draw: &mut Draw, search: &Search) -> f64 {
     let (low, high) = search.range().into_inner();
     match draw.below(4) {
         0 | 1 => magnitude(draw, low, high),
         2 => draw.between(low, high),
+        _ if search.region == 5 => temperature_5(draw),
         _ if search.pair == Pair::Pv => pressure(draw),
         _ => temperature(draw),
     }
@@ -99,8 +127,8 @@ pub fn target(draw: &mut Draw, search: &Search, fixed: f64) -> f64 {
         13 => f64::from_bits(draw.bits() >> (6 + draw.below(58))),
         14 => f64::from_bits(draw.bits()),
         _ => match search.pair {
-            Pair::Th => draw.between(-10.0, 4500.0),
-            Pair::Ts => draw.between(-0.1, 15.0),
+            Pair::Th => draw.between(-10.0, if search.region == 5 { 7500.0 } else { 4500.0 }),
+            Pair::Ts => draw.between(-0.1, if search.region == 5 { 20.0 } else { 15.0 }),
             _ => magnitude(draw, 0.0009, 6.0e7),
         },
     };
@@ -113,11 +141,12 @@ pub fn target(draw: &mut Draw, search: &Search, fixed: f64) -> f64 {
 
 /// The two doubles of a pair, or a state.
 pub fn pair(draw: &mut Draw) -> (f64, f64) {
-    match draw.below(12) as usize {
+    match draw.below(16) as usize {
         n if n < SEARCHES.len() => {
             let fixed = fixed(draw, &SEARCHES[n]);
             (fixed, target(draw, &SEARCHES[n], fixed))
         }
+        14.. => state_5(draw),
         _ => state(draw),
     }
 }

@@ -15,6 +15,10 @@ pub enum Question {
 pub const LINES: [Line; 4] = [Line::SaturationPressure, Line::SaturationTemperature, Line::B23Pressure, Line::B23Temperature];
 pub const PAIRS: [Pair; 4] = [Pair::Pv, Pair::Tv, Pair::Th, Pair::Ts];
 
+/// By their own numbers, and those of them that (p,v) takes.
+pub const REGIONS: [u32; 3] = [1, 2, 5];
+pub const PV_REGIONS: [u32; 2] = [1, 2];
+
 impl Question {
     #[inline]
     pub fn climboat(&self) -> Record {
@@ -73,8 +77,10 @@ impl Question {
     /// The columns that say what a record is of, and no outcome: a region or a property that names nothing is 0.
     pub fn asked(&self) -> Record {
         let (region, property, _, [first, second]) = self.given();
-        let named = |number: u32, last: u32| if number <= last { number } else { 0 };
-        Record { region: named(region, 2), kind: self.kind(), property: named(property, 7), first, second, ..NOTHING }
+        let regions: &[u32] = if matches!(self, Question::Search(Pair::Pv, ..)) { &PV_REGIONS } else { &REGIONS };
+        let region = if regions.contains(&region) { region } else { 0 };
+        let property = if property <= 7 { property } else { 0 };
+        Record { region, kind: self.kind(), property, first, second, ..NOTHING }
     }
 
     /// An outcome with what it is of, and nothing in the room.

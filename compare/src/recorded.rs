@@ -3,13 +3,16 @@
 use crate::climboat::{Line, Pair, Record, EXACT_END, INSIDE, LARGEST_LIMIT, SMALL_RESIDUAL, VALUE, VESSELS_LIMIT};
 use crate::draw::Draw;
 use crate::patience::enough;
-use crate::plausible::{self, beside, magnitude, NAN, PRESSURES, TEMPERATURES};
+use crate::plausible::{self, beside, magnitude, NAN, PRESSURES, PRESSURES_5, TEMPERATURES, TEMPERATURES_5};
 use crate::question::{Question, LINES, PAIRS};
 use crate::table::{Search, SEARCHES};
 use std::collections::HashSet;
 use std::fs;
 
 const FOLDER: &str = "crates/replay";
+
+/// How many of the searches were recorded first, those of regions 1 and 2; the others are region 5's.
+const RECORDED_FIRST: usize = 8;
 
 /// Step limits, each with how many drawn pairs it gets in every search.
 const LIMITS: [(u32, usize); 7] = [(0, 12), (1, 16), (2, 16), (5, 24), (20, 36), (20_000, 80), (20_001, 4)];
@@ -129,35 +132,79 @@ fn double(x: f64) -> String {
 
 fn questions() -> Vec<Question> {
     let mut draw = Draw::new(0x0c1b_0a70_0000_0043);
+    let searches = &SEARCHES[..RECORDED_FIRST];
     let mut list = readings();
-    list.extend(strange());
+    list.extend(no_steps(searches));
+    list.extend(strange(&LINES, &[1, 2], searches));
     list.extend(unknown());
     list.extend(one_end_finite());
-    list.extend(properties(&mut draw));
+    list.extend(properties(&mut draw, &[1, 2]));
     list.extend(lines(&mut draw));
-    for search in &SEARCHES {
-        list.extend(edges(search));
-        list.extend(order(search));
-        for (limit, times) in LIMITS {
-            list.extend((0..times).map(|_| drawn(&mut draw, search, limit)));
-        }
-    }
-    list.extend(patience());
+    list.extend(searched(&mut draw, searches));
+    list.extend(patience(&mut Draw::new(0x0c1b_0a70_0000_0045), searches));
+    list.extend(region_5());
     let mut seen = HashSet::new();
     list.retain(|question| seen.insert(question.digits()));
     list
 }
 
-/// The questions about the largest limit. They have a draw of their own, so that those before them stay as they were recorded.
-fn patience() -> Vec<Question> {
-    let mut draw = Draw::new(0x0c1b_0a70_0000_0045);
+/// The questions about region 5. They have a draw of their own, so that those before them stay as they were recorded; so have those about the largest limit.
+fn region_5() -> Vec<Question> {
+    let mut draw = Draw::new(0x0c1b_0a70_0000_0046);
+    let searches = &SEARCHES[RECORDED_FIRST..];
+    let mut list = corners();
+    list.extend(beside_region_2());
+    list.extend(no_steps(searches));
+    list.extend(strange(&[], &[5], searches));
+    // it has no (p,v), whatever is asked
+    list.extend([(1.0, 1.0), (NAN, -1.0), (0.0, 0.0)].map(|(p, v)| Question::Search(Pair::Pv, 5, p, v, LARGEST_LIMIT + 1)));
+    list.extend(properties(&mut draw, &[5]));
+    list.extend(searched(&mut draw, searches));
+    list.extend(patience(&mut draw, searches));
+    list
+}
+
+/// At the corners of region 5 and next to them, the properties in turn.
+fn corners() -> Vec<Question> {
+    let pressures: Vec<f64> = PRESSURES_5.into_iter().flat_map(around).collect();
+    let states = TEMPERATURES_5.into_iter().flat_map(around).flat_map(|t| pressures.iter().map(move |&p| (p, t)));
+    states.zip((1..=7).cycle()).map(|((p, t), property)| Question::Property(5, property, p, t)).collect()
+}
+
+/// At 1073.15 K and next to it, where the region that is named decides: the properties, and the searches of what region 5 has at 1 MPa.
+fn beside_region_2() -> Vec<Question> {
     let mut list = Vec::new();
-    for search in &SEARCHES {
+    for t in around(1073.15) {
+        for region in [2, 5] {
+            list.extend((1..=7).map(|property| Question::Property(region, property, 1.0, t)));
+            list.extend(SEARCHES[RECORDED_FIRST..].iter().map(|search| Question::Search(search.pair, region, t, search.found(t, 1.0), 20_000)));
+        }
+    }
+    list
+}
+
+/// The edges of each search, its order of refusals, and what is drawn under each limit.
+fn searched(draw: &mut Draw, searches: &[Search]) -> Vec<Question> {
+    let mut list = Vec::new();
+    for search in searches {
+        list.extend(edges(search));
+        list.extend(order(search));
+        for (limit, times) in LIMITS {
+            list.extend((0..times).map(|_| drawn(draw, search, limit)));
+        }
+    }
+    list
+}
+
+/// The questions about the largest limit.
+fn patience(draw: &mut Draw, searches: &[Search]) -> Vec<Question> {
+    let mut list = Vec::new();
+    for search in searches {
         list.extend(in_order(search).map(|fixed| too_large(search, fixed, LARGEST_LIMIT + 1)));
         for (limit, times) in LARGEST_LIMITS {
-            list.extend((0..times).map(|_| drawn(&mut draw, search, limit)));
+            list.extend((0..times).map(|_| drawn(draw, search, limit)));
         }
-        let turned = std::iter::repeat_with(|| drawn(&mut draw, search, LARGEST_LIMIT)).filter_map(|question| turned(&question));
+        let turned = std::iter::repeat_with(|| drawn(draw, search, LARGEST_LIMIT)).filter_map(|question| turned(&question));
         list.extend(turned.take(TURNED).flatten());
     }
     list
@@ -170,7 +217,7 @@ fn turned(question: &Question) -> Option<[Question; 6]> {
     Some([least - 1, least, least + 1, VESSELS_LIMIT, VESSELS_LIMIT + 1, LARGEST_LIMIT].map(|limit| question.under(limit)))
 }
 
-/// Document 01's readings 10 to 16.
+/// Document 01's readings 10 to 14 and 16.
 fn readings() -> Vec<Question> {
     let warmest = f64::from_bits(623.15f64.to_bits() + 1);
     let one = &SEARCHES[0];
@@ -183,12 +230,33 @@ fn readings() -> Vec<Question> {
         Question::Search(one.pair, 1, 1.0, 0.5 * (one.found(1.0, 277.0) + one.found(1.0, 273.15)), 20_000),
     ];
     list.extend([0.000611212677f64, 22.064].into_iter().flat_map(around).map(|p| Question::Line(Line::SaturationTemperature, p)));
-    list.extend(SEARCHES.iter().map(|search| {
-        let fixed = if search.pair == Pair::Pv { 1.0 } else { 500.0 };
+    list
+}
+
+/// Its reading 15.
+fn no_steps(searches: &[Search]) -> impl Iterator<Item = Question> + '_ {
+    searches.iter().map(|search| {
+        let fixed = ordinary(search);
         let (lower, upper) = (search.ends)(fixed);
         Question::Search(search.pair, search.region, fixed, search.found(fixed, 0.5 * (lower + upper)), 0)
-    }));
-    list
+    })
+}
+
+/// A pressure or a temperature in the middle of the region.
+fn ordinary(search: &Search) -> f64 {
+    if search.pair == Pair::Pv {
+        1.0
+    } else {
+        ordinary_temperature(search.region)
+    }
+}
+
+fn ordinary_temperature(region: u32) -> f64 {
+    if region == 5 {
+        1500.0
+    } else {
+        500.0
+    }
 }
 
 /// The double before, itself, and the double after.
@@ -197,16 +265,15 @@ fn around(x: f64) -> [f64; 3] {
 }
 
 /// Each call with each strange double in each place.
-fn strange() -> Vec<Question> {
+fn strange(lines: &[Line], regions: &[u32], searches: &[Search]) -> Vec<Question> {
     let mut list = Vec::new();
     for x in STRANGE.map(f64::from_bits) {
-        list.extend(LINES.map(|line| Question::Line(line, x)));
-        for region in [1, 2] {
-            list.extend([(x, 500.0), (1.0, x)].map(|(p, t)| Question::Property(region, 1, p, t)));
+        list.extend(lines.iter().map(|&line| Question::Line(line, x)));
+        for &region in regions {
+            list.extend([(x, ordinary_temperature(region)), (1.0, x)].map(|(p, t)| Question::Property(region, 1, p, t)));
         }
-        for search in &SEARCHES {
-            let fixed = if search.pair == Pair::Pv { 1.0 } else { 500.0 };
-            list.extend([(x, 1.0), (fixed, x)].map(|(fixed, target)| Question::Search(search.pair, search.region, fixed, target, 20_000)));
+        for search in searches {
+            list.extend([(x, 1.0), (ordinary(search), x)].map(|(fixed, target)| Question::Search(search.pair, search.region, fixed, target, 20_000)));
         }
     }
     list
@@ -229,18 +296,20 @@ fn one_end_finite() -> [Question; 2] {
 }
 
 /// Every property at states inside its region, and at plausible ones.
-fn properties(draw: &mut Draw) -> Vec<Question> {
+fn properties(draw: &mut Draw, regions: &[u32]) -> Vec<Question> {
     let mut list = Vec::new();
-    for (region, warmest) in [(1, 623.15), (2, 1073.15)] {
+    for &region in regions {
         let by_t = SEARCHES.iter().rfind(|search| search.region == region).expect("a pair by T");
+        let (coldest, warmest) = by_t.range().into_inner();
         for property in 1..=7 {
             for kind in 0..48 {
-                let t = draw.between(273.15, warmest);
+                let t = draw.between(coldest, warmest);
                 let (least, most) = (by_t.ends)(t);
                 let (p, t) = match kind % 4 {
                     0 => (draw.between(least, most), t),
                     1 => (magnitude(draw, least, most), t),
                     2 => (beside(draw, if region == 1 { least } else { most }), t),
+                    _ if region == 5 => plausible::state_5(draw),
                     _ => plausible::state(draw),
                 };
                 list.push(Question::Property(region, property, p, t));
@@ -265,7 +334,11 @@ fn lines(draw: &mut Draw) -> Vec<Question> {
 
 /// Both ends as answers, where the ranges and the brackets change.
 fn edges(search: &Search) -> Vec<Question> {
-    let fixed: &[f64] = if search.pair == Pair::Pv { &PRESSURES } else { &TEMPERATURES };
+    let fixed: &[f64] = match (search.pair, search.region) {
+        (Pair::Pv, _) => &PRESSURES,
+        (_, 5) => &TEMPERATURES_5,
+        _ => &TEMPERATURES,
+    };
     let ends = fixed.iter().flat_map(|&x| {
         let (lower, upper) = (search.ends)(x);
         [lower, upper].map(|end| Question::Search(search.pair, search.region, x, search.found(x, end), 20_000))
@@ -285,7 +358,7 @@ fn order(search: &Search) -> Vec<Question> {
 
 /// What is fixed: no number, two out of range, and an ordinary one.
 fn in_order(search: &Search) -> [f64; 4] {
-    [NAN, 0.0, 2000.0, if search.pair == Pair::Pv { 1.0 } else { 500.0 }]
+    [NAN, 0.0, if search.region == 5 { 3000.0 } else { 2000.0 }, ordinary(search)]
 }
 
 /// With a target that is refused too if it is a volume, under a limit that is too large; 20,001 was when its questions were recorded.

@@ -1,4 +1,4 @@
-//! The eight pair searches against the test copy: every column of every answer, bit for bit, under limits up to the largest; and each outcome under the limits that its step count speaks of.
+//! The eleven pair searches against the test copy: every column of every answer, bit for bit, under limits up to the largest; and each outcome under the limits that its step count speaks of.
 
 use crate::climboat::{Pair, Record, INSIDE, LARGEST_LIMIT, NARROW, OUTSIDE};
 use crate::draw::Draw;

@@ -7,6 +7,8 @@ use copy::r1::region1_pair_ext as pairs1;
 use copy::r2::region2_pT as r2;
 use copy::r2::region2_pair_ext as pairs2;
 use copy::r4::region4_sat_pT::{T_saturation, p_saturation};
+use copy::r5::region5_pT as r5;
+use copy::r5::region5_pair_ext as pairs5;
 use copy::run::Run;
 use std::ops::RangeInclusive;
 
@@ -46,6 +48,7 @@ pub fn property(region: u32, property: u32, p: f64, t: f64) -> Record {
     let properties: [Property; 7] = match region {
         1 => [r1::pT2v_reg1, r1::pT2u_reg1, r1::pT2s_reg1, r1::pT2h_reg1, r1::pT2cp_reg1, r1::pT2cv_reg1, r1::pT2w_reg1],
         2 => [r2::pT2v_reg2, r2::pT2u_reg2, r2::pT2s_reg2, r2::pT2h_reg2, r2::pT2cp_reg2, r2::pT2cv_reg2, r2::pT2w_reg2],
+        5 => [r5::pT2v_reg5, r5::pT2u_reg5, r5::pT2s_reg5, r5::pT2h_reg5, r5::pT2cp_reg5, r5::pT2cv_reg5, r5::pT2w_reg5],
         _ => return refused(21),
     };
     let Some(function) = (property as usize).checked_sub(1).and_then(|n| properties.get(n)) else {
@@ -69,7 +72,11 @@ fn state(region: u32, p: f64, t: f64) -> u32 {
     if !boundary.is_finite() {
         return 9;
     }
-    let inside = if region == 1 { boundary <= p && p <= 100.0 } else { 1.0e-8 <= p && p <= 100.0 && p <= boundary };
+    let inside = match region {
+        1 => boundary <= p && p <= 100.0,
+        2 => 1.0e-8 <= p && p <= 100.0 && p <= boundary,
+        _ => 1.0e-8 <= p && p <= 50.0,
+    };
     if inside {
         0
     } else {
@@ -78,10 +85,14 @@ fn state(region: u32, p: f64, t: f64) -> u32 {
 }
 
 fn temperatures(region: u32) -> RangeInclusive<f64> {
-    273.15..=if region == 1 { 623.15 } else { 1073.15 }
+    match region {
+        1 => 273.15..=623.15,
+        2 => 273.15..=1073.15,
+        _ => 1073.15..=2273.15,
+    }
 }
 
-/// Where region 2 stops at t; up to 623.15, where region 1 begins.
+/// Where region 2 stops at t; up to 623.15, where region 1 begins. Region 5 reads none, and at its temperatures this is a number.
 fn boundary(t: f64) -> f64 {
     if t <= 623.15 {
         p_saturation(t)
@@ -104,7 +115,7 @@ pub struct Search {
 }
 
 #[rustfmt::skip]
-pub const SEARCHES: [Search; 8] = [
+pub const SEARCHES: [Search; 11] = [
     Search { pair: Pair::Pv, region: 1, width: Some(|_| 1.0e-6), ends: |p| (273.15, if p >= 16.5291643 { 623.15 } else { T_saturation(p) }), property: r1::pT2v_reg1, run: pairs1::pv2T_reg1 },
     Search { pair: Pair::Pv, region: 2, width: None, ends: |p| (lowest_temperature(p), 1073.15), property: r2::pT2v_reg2, run: pairs2::pv2T_reg2 },
     Search { pair: Pair::Tv, region: 1, width: None, ends: |t| (p_saturation(t), 100.0), property: r1::pT2v_reg1, run: pairs1::Tv2p_reg1 },
@@ -113,6 +124,9 @@ pub const SEARCHES: [Search; 8] = [
     Search { pair: Pair::Th, region: 2, width: None, ends: |_| (1.0e-8, 100.0), property: r2::pT2h_reg2, run: pairs2::Th2p_reg2 },
     Search { pair: Pair::Ts, region: 1, width: None, ends: |t| (p_saturation(t), 100.0), property: r1::pT2s_reg1, run: pairs1::Ts2p_reg1 },
     Search { pair: Pair::Ts, region: 2, width: None, ends: |t| (1.0e-8, boundary(t)), property: r2::pT2s_reg2, run: pairs2::Ts2p_reg2 },
+    Search { pair: Pair::Tv, region: 5, width: None, ends: |_| (1.0e-8, 50.0), property: r5::pT2v_reg5, run: pairs5::Tv2p_reg5 },
+    Search { pair: Pair::Th, region: 5, width: None, ends: |_| (1.0e-8, 50.0), property: r5::pT2h_reg5, run: pairs5::Th2p_reg5 },
+    Search { pair: Pair::Ts, region: 5, width: None, ends: |_| (1.0e-8, 50.0), property: r5::pT2s_reg5, run: pairs5::Ts2p_reg5 },
 ];
 
 fn lowest_temperature(p: f64) -> f64 {

@@ -5,6 +5,7 @@ use crate::climboat::{self, Line, Pair, VESSELS_LIMIT};
 use crate::draw::Draw;
 #[cfg(feature = "original")]
 use crate::pairs::{Search, LIMIT, SEARCHES};
+use crate::question::{PV_REGIONS, REGIONS};
 use std::hint::black_box;
 use std::time::Instant;
 
@@ -90,12 +91,18 @@ pub fn tables() -> Bars {
 /// Each a pressure and a temperature inside the region.
 type States = Vec<(f64, f64)>;
 
+/// The place of a region among those that are timed.
+pub fn place(region: u32) -> usize {
+    REGIONS.iter().position(|&named| named == region).expect("a region")
+}
+
 /// 20,000 states of each region.
-pub fn states() -> [States; 2] {
+pub fn states() -> [States; 3] {
     let mut draw = Draw::new(0x0c1b_0a70_0000_0006);
     let one = (0..20_000).map(|_| (draw.between(20.0, 100.0), draw.between(273.15, 623.15))).collect();
     let two = (0..20_000).map(|_| (draw.logarithmic(1.0e-8, 0.0006), draw.between(273.15, 1073.15))).collect();
-    [one, two]
+    let five = (0..20_000).map(|_| (draw.logarithmic(1.0e-8, 50.0), draw.between(1073.15, 2273.15))).collect();
+    [one, two, five]
 }
 
 /// A million states at which Climboat answers in region 1.
@@ -138,7 +145,7 @@ fn calls() {
     head("public call", "formula alone");
     let states = states();
     for (region, property, name, formula) in PROPERTIES {
-        let states = &states[region as usize - 1];
+        let states = &states[place(region)];
         row(&format!("region {region} (p,T) to {name}"), states, |s| climboat::property(region, property, s.0, s.1).value, |s| formula(s.0, s.1));
     }
     let [temperatures, pressures] = saturated();
@@ -150,14 +157,15 @@ fn calls() {
     row("B23 pressure", &b23_temperatures, |&t| climboat::line(Line::B23Pressure, t).value, |&t| climboat::b23_pressure(t));
     row("B23 temperature", &b23_pressures, |&p| climboat::line(Line::B23Temperature, p).value, |&p| climboat::b23_temperature(p));
     for (pair, name) in [(Pair::Pv, "(p,v) to T"), (Pair::Tv, "(T,v) to p"), (Pair::Th, "(T,h) to p"), (Pair::Ts, "(T,s) to p")] {
-        for region in [1, 2] {
-            search(pair, region, &format!("region {region} {name}"), &states[region as usize - 1][..2_000]);
+        let regions: &[u32] = if pair == Pair::Pv { &PV_REGIONS } else { &REGIONS };
+        for &region in regions {
+            search(pair, region, &format!("region {region} {name}"), &states[place(region)][..2_000]);
         }
     }
 }
 
 /// Region, property, its name and its formula; the searches are of v, h and s.
-const PROPERTIES: [(u32, u32, &str, fn(f64, f64) -> f64); 8] = [
+const PROPERTIES: [(u32, u32, &str, fn(f64, f64) -> f64); 12] = [
     (1, 1, "v", climboat::region1_v),
     (1, 3, "s", climboat::region1_s),
     (1, 4, "h", climboat::region1_h),
@@ -166,6 +174,10 @@ const PROPERTIES: [(u32, u32, &str, fn(f64, f64) -> f64); 8] = [
     (2, 3, "s", climboat::region2_s),
     (2, 4, "h", climboat::region2_h),
     (2, 7, "w", climboat::region2_w),
+    (5, 1, "v", climboat::region5_v),
+    (5, 3, "s", climboat::region5_s),
+    (5, 4, "h", climboat::region5_h),
+    (5, 7, "w", climboat::region5_w),
 ];
 
 /// A row of the searches, over those of the states that they find.
@@ -182,12 +194,12 @@ fn search(pair: Pair, region: u32, name: &str, states: &[(f64, f64)]) {
     row(name, &inputs, |&(p, t, target)| ours(p, t, target).value, |&(p, t, _)| formula(p, t));
 }
 
-/// The fourteen properties.
+/// The twenty-one properties.
 #[cfg(feature = "original")]
 fn properties(bars: &mut Bars) {
-    use crate::equations::{REGION_1, REGION_2};
+    use crate::equations::{REGION_1, REGION_2, REGION_5};
     barred_head("property", "original");
-    for (rows, states) in [&REGION_1, &REGION_2].into_iter().zip(states()) {
+    for (rows, states) in [&REGION_1, &REGION_2, &REGION_5].into_iter().zip(states()) {
         for r in rows {
             println!("{}", barred(bars, r.time, r.name, &states, |s| (r.ours)(s.0, s.1), |s| (r.rusts)(s.0, s.1)));
         }
@@ -217,7 +229,7 @@ pub fn searched(search: &Search) -> Vec<(f64, f64)> {
     inputs
 }
 
-/// The eight searches.
+/// The eleven searches. The original's of region 5 are bisection and secants, so they have no bar.
 #[cfg(feature = "original")]
 fn searches(bars: &mut Bars) {
     barred_head("search", "original");

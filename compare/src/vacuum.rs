@@ -13,7 +13,7 @@ use std::panic;
 const TEMPERATURES: [f64; 4] = [280.0, 400.0, 800.0, 1073.15];
 
 /// Ten to a decade: ten to the power of 0, 0.1, 0.2 and so on, in three digits.
-const DIGITS: [&str; 10] = ["1.00", "1.26", "1.58", "2.00", "2.51", "3.16", "3.98", "5.01", "6.31", "7.94"];
+pub const DIGITS: [&str; 10] = ["1.00", "1.26", "1.58", "2.00", "2.51", "3.16", "3.98", "5.01", "6.31", "7.94"];
 
 const HEAD: &str = "| T, K | p, MPa | states (outside) | exact end, refused | before: narrow | small residual | most steps | after: narrow | small residual | most steps |\n|---|---|---|---|---|---|---|---|---|---|\n";
 

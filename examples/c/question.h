@@ -13,7 +13,13 @@ static inline const char *place_of(struct climboat_answer answer)
     case CLIMBOAT_KIND_SATURATION_TEMPERATURE: return "the saturation line";
     case CLIMBOAT_KIND_B23_PRESSURE:
     case CLIMBOAT_KIND_B23_TEMPERATURE: return "B23";
-    default: return answer.region == CLIMBOAT_REGION_1 ? "region 1" : answer.region == CLIMBOAT_REGION_2 ? "region 2" : "no region";
+    default: break;
+    }
+    switch (answer.region) {
+    case CLIMBOAT_REGION_1: return "region 1";
+    case CLIMBOAT_REGION_2: return "region 2";
+    case CLIMBOAT_REGION_5: return "region 5";
+    default: return "no region";
     }
 }
 

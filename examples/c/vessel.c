@@ -55,6 +55,7 @@ int main(void)
     /* the first column of the release's Table 5, all seven properties */
     for (property = CLIMBOAT_VOLUME; property <= CLIMBOAT_SPEED_OF_SOUND; property++) tell(climboat_pT(CLIMBOAT_REGION_1, property, 3.0, 300.0));
     tell(climboat_pT(CLIMBOAT_REGION_2, CLIMBOAT_ENTHALPY, 0.0035, 700.0));
+    tell(climboat_pT(CLIMBOAT_REGION_5, CLIMBOAT_ENTHALPY, 0.5, 1500.0));
     tell(climboat_saturation_temperature(1.0));
     tell(climboat_saturation_pressure(500.0));
     tell(climboat_B23_pressure(700.0));
@@ -64,6 +65,8 @@ int main(void)
     tell_search(climboat_Ts2p(CLIMBOAT_REGION_2, 500.0, 7.2, 40));
     tell_search(climboat_Th2p(CLIMBOAT_REGION_2, 500.0, 2900.0, CLIMBOAT_STEP_LIMIT));
     tell_search(climboat_Tv2p(CLIMBOAT_REGION_2, 500.0, 0.1, 5));
+    tell_search(climboat_Tv2p(CLIMBOAT_REGION_5, 1500.0, 1.3845, CLIMBOAT_STEP_LIMIT));
+    tell_search(climboat_pv2T(CLIMBOAT_REGION_5, 0.5, 1.3845, CLIMBOAT_STEP_LIMIT));
     tell(climboat_pT(CLIMBOAT_REGION_1, CLIMBOAT_VOLUME, NAN, 300.0));
     tell(climboat_pT(3, CLIMBOAT_VOLUME, 3.0, 300.0));
     tell(climboat_pT(CLIMBOAT_REGION_1, 8, 3.0, 300.0));

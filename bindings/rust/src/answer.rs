@@ -106,11 +106,11 @@ impl Reading {
     /// A call that does not search gives no mark: its point is inside, or it is refused.
     ///
     /// ```
-    /// use climboat::{pv2t, saturation_temperature, Region, STEP_LIMIT};
+    /// use climboat::{pv2t, saturation_temperature, PvRegion, STEP_LIMIT};
     ///
     /// let boiling = saturation_temperature(0.101325)?;
     /// // water that boils at 0.09 MPa: below boiling at the pressure of the air, and outside the region
-    /// let temperature = pv2t(Region::One, 0.09, 0.0010408989121683818, STEP_LIMIT)?;
+    /// let temperature = pv2t(PvRegion::One, 0.09, 0.0010408989121683818, STEP_LIMIT)?;
     /// assert!(temperature.value < boiling.value);
     /// assert!(boiling.is_inside() && !temperature.is_inside());
     /// # Ok::<(), climboat::Refusal>(())
@@ -146,7 +146,7 @@ pub enum Cause {
     PointOutside,
     /// 11: the step limit is above [`crate::LARGEST_STEP_LIMIT`], 65,535.
     LimitTooLarge,
-    /// 21: a region or property number names nothing for this call.
+    /// 21: a region or property number names none that this call has. Of this crate's calls only [`crate::search`] can meet it: (p,v) has no region 5.
     NothingNamed,
     /// A number that this version has no name for.
     Unknown,
@@ -182,7 +182,7 @@ const ROWS: [Row; 12] = [
     row(9, Cause::ResultNotFinite, false, "a property, saturation or B23 result is not finite, so there is no number to give; ask for another state"),
     row(10, Cause::PointOutside, true, "the next point of the search lies outside its bracket, so it cannot go on; the bracket is as far as it came, ask for the state by another pair"),
     row(11, Cause::LimitTooLarge, false, "the step limit is above 65,535; give one from 0 to 65,535"),
-    row(21, Cause::NothingNamed, false, "the region or the property is not one that this call knows; name another"),
+    row(21, Cause::NothingNamed, false, "the region or the property is not one that this call has; name another: (p,v) has regions 1 and 2 alone"),
 ];
 
 /// No answer: the refusal's number, what it is of, and where the search was when it gave up.

@@ -47,6 +47,7 @@ mod tests {
         let values = [
             (property(1, 7, 3.0, 300.0), [1, 1, 7], [3.0, 300.0]),
             (property(2, 1, 1.0, 700.0), [2, 1, 1], [1.0, 700.0]),
+            (property(5, 6, 0.5, 1500.0), [5, 1, 6], [0.5, 1500.0]),
             (saturation_pressure(500.0), [0, 2, 0], [500.0, 0.0]),
             (saturation_temperature(1.0), [0, 3, 0], [1.0, 0.0]),
             (b23_pressure(700.0), [0, 4, 0], [700.0, 0.0]),
@@ -69,6 +70,7 @@ mod tests {
             (th2p(2, 600.0, 3000.0, LIMIT), [2, 8, 0], [600.0, 3000.0]),
             (ts2p(2, 500.0, 7.2, LIMIT), [2, 9, 0], [500.0, 7.2]),
             (ts2p(2, 500.0, 7.2, 2), [2, 9, 0], [500.0, 7.2]),
+            (ts2p(5, 1500.0, 9.0, LIMIT), [5, 9, 0], [1500.0, 9.0]),
         ];
         for (record, [region, kind, property], [first, second]) in found {
             assert_eq!(record.numbers[4..], [region, kind, property, 0]);
@@ -83,9 +85,10 @@ mod tests {
             (property(1, 9, 3.0, 300.0), [1, 1, 0], [3.0, 300.0]),
             (property(0, 0, 3.0, 300.0), [0, 1, 0], [3.0, 300.0]),
             (pv2t(3, 3.0, 0.001, LIMIT), [0, 6, 0], [3.0, 0.001]),
+            (pv2t(5, 0.5, 1.3845, LIMIT), [0, 6, 0], [0.5, 1.3845]),
             (tv2p(u32::MAX, 500.0, 0.1, LIMIT), [0, 7, 0], [500.0, 0.1]),
             (th2p(0, 600.0, 3000.0, LIMIT), [0, 8, 0], [600.0, 3000.0]),
-            (ts2p(5, 500.0, 7.2, LIMIT), [0, 9, 0], [500.0, 7.2]),
+            (ts2p(4, 500.0, 7.2, LIMIT), [0, 9, 0], [500.0, 7.2]),
         ];
         for (record, [region, kind, property], [first, second]) in refused {
             assert_eq!(record.numbers, [21, 0, 0, 0, region, kind, property, 0]);

@@ -1,4 +1,4 @@
-//! Climboat for Rust: properties of water and steam by IAPWS-IF97, regions 1 and 2, the saturation line and B23, or a refusal by number.
+//! Climboat for Rust: properties of water and steam by IAPWS-IF97, regions 1, 2 and 5, the saturation line and B23, or a refusal by number.
 //!
 //! Every call is one call of Climboat's proved archive. It takes any doubles and any step limit, and answers a [`Reading`] or a [`Refusal`]; it never panics.
 //! Units: MPa, K, m^3/kg, kJ/kg, kJ/(kg K), m/s. The caller always names the region.
@@ -7,12 +7,12 @@
 //! C code in the same program can change it (linking with `-ffast-math` turns flush-to-zero on): README.md, "The floating-point environment", says what was measured then.
 //!
 //! ```
-//! use climboat::{property, pv2t, Property, Reason, Region, STEP_LIMIT};
+//! use climboat::{property, pv2t, Property, PvRegion, Reason, Region, STEP_LIMIT};
 //!
 //! let volume = property(Region::One, Property::Volume, 3.0, 300.0)?;
 //! assert_eq!(format!("{:.8e}", volume.value), "1.00215168e-3");
 //!
-//! let temperature = pv2t(Region::One, 3.0, volume.value, STEP_LIMIT)?;
+//! let temperature = pv2t(PvRegion::One, 3.0, volume.value, STEP_LIMIT)?;
 //! assert!((temperature.value - 300.0).abs() < 1.0e-4);
 //! assert_eq!(temperature.reason, Reason::SmallResidual);
 //! // a search may find a value outside its region: nothing is decided on that
@@ -42,7 +42,7 @@ mod choices;
 
 pub use answer::{Bracket, Cause, Reading, Reason, Refusal, Search};
 pub use asked::{Asked, Kind, Quantity};
-pub use choices::{Pair, Property, Region};
+pub use choices::{Pair, Property, PvRegion, Region, WithoutPv};
 
 /// The version of Climboat.
 pub const VERSION: &str = env!("CARGO_PKG_VERSION");
@@ -118,6 +118,18 @@ pub fn b23_temperature(p: f64) -> Result<Reading, Refusal> {
 /// assert_eq!(refusal.cause(), Cause::StepsSpent);
 /// assert_eq!((refusal.steps, refusal.bracket.lower), (0, 1.0e-8));
 /// ```
+///
+/// Pair and region are named at run time, so that a pair can meet a region that has not got it. (p,v) of region 5 is refused by 21, whatever the inputs and the limit, and the refusal is of no region.
+/// [`pv2t`] takes a [`PvRegion`], with which this cannot be asked.
+///
+/// ```
+/// use climboat::{search, Cause, Pair, Region, STEP_LIMIT};
+///
+/// let refusal = search(Pair::Pv, Region::Five, 0.5, 1.3845, STEP_LIMIT).unwrap_err();
+/// assert_eq!((refusal.number, refusal.cause()), (21, Cause::NothingNamed));
+/// assert!(refusal.sentence().ends_with("(p,v) has regions 1 and 2 alone"));
+/// assert_eq!(refusal.asked.to_string(), "no region, p = 0.5 MPa, v = 1.3845 m^3/kg");
+/// ```
 pub fn search(
     pair: Pair,
     region: Region,
@@ -126,19 +138,22 @@ pub fn search(
     limit: u32,
 ) -> Result<Reading, Refusal> {
     match pair {
-        Pair::Pv => pv2t(region, fixed, target, limit),
+        Pair::Pv => archive::pv2t(region.number(), fixed, target, limit).read(),
         Pair::Tv => tv2p(region, fixed, target, limit),
         Pair::Th => th2p(region, fixed, target, limit),
         Pair::Ts => ts2p(region, fixed, target, limit),
     }
 }
 
-/// (p,v) to T: p from 0.000611212677444 (region 1) or 1.0e-8 (region 2) to 100 MPa, v above zero.
-pub fn pv2t(region: Region, p: f64, v: f64, limit: u32) -> Result<Reading, Refusal> {
+/// (p,v) to T: p from 0.000611212677444 (region 1) or 1.0e-8 (region 2) to 100 MPa, v above zero. Region 5 has no (p,v): to name it does not compile ([`PvRegion`]).
+pub fn pv2t(region: PvRegion, p: f64, v: f64, limit: u32) -> Result<Reading, Refusal> {
     archive::pv2t(region.number(), p, v, limit).read()
 }
 
-/// (T,v) to p: T from 273.15 to 623.15 (region 1) or 1073.15 K (region 2), v above zero. The ends of a narrow answer of region 2 are less than a millionth of the upper one apart, in a low vacuum too.
+/// (T,v) to p: T from 273.15 to 623.15 (region 1) or 1073.15 K (region 2), or from 1073.15 to 2273.15 K (region 5), v above zero.
+///
+/// The ends of a narrow answer of region 2 are less than a millionth of the upper one apart, in a low vacuum too. Those of region 5, by Brent's rule, are up to 1.2e-7 times the pressure
+/// plus 1.0e-8 MPa apart, which in a low vacuum is a larger part of it.
 ///
 /// ```
 /// use climboat::{property, tv2p, Property, Region, STEP_LIMIT};

@@ -6,10 +6,10 @@ use climboat::{LARGEST_STEP_LIMIT, STEP_LIMIT};
 
 /// Pressures, temperatures and targets among which every call finds answers, and doubles that no sensor should give.
 #[rustfmt::skip]
-const DOUBLES: [f64; 28] = [
+const DOUBLES: [f64; 30] = [
     1.0e-8, 0.0035, 0.2, 1.0, 3.0, 30.0, 50.0, 80.0,
-    273.15, 300.0, 500.0, 650.0, 700.0,
-    0.001, 0.00103, 0.0012, 0.1, 115.0, 1650.0, 2500.0, 3000.0, 0.39, 7.2, 8.5,
+    273.15, 300.0, 500.0, 650.0, 700.0, 1500.0,
+    0.001, 0.00103, 0.0012, 0.1, 115.0, 1650.0, 2500.0, 3000.0, 5200.0, 0.39, 7.2, 8.5,
     f64::NAN, f64::NEG_INFINITY, -0.0, 5.0e-324,
 ];
 const LIMITS: [u32; 5] = [0, 3, STEP_LIMIT, LARGEST_STEP_LIMIT, LARGEST_STEP_LIMIT + 1];

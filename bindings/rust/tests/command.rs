@@ -33,7 +33,11 @@ fn answers(line: &str, expected: String) {
 
 #[test]
 fn a_property_is_two_lines() {
-    for (region, p, t) in [(Region::One, 3.0, 300.0), (Region::Two, 0.0035, 700.0)] {
+    for (region, p, t) in [
+        (Region::One, 3.0, 300.0),
+        (Region::Two, 0.0035, 700.0),
+        (Region::Five, 0.5, 1500.0),
+    ] {
         for &of in Property::ALL {
             let value = property(region, of, p, t).unwrap().value;
             answers(
@@ -55,9 +59,9 @@ fn a_property_is_two_lines() {
 
 #[test]
 fn a_search_is_seven_lines() {
-    let pv = pv2t(Region::One, 3.0, 0.001, STEP_LIMIT).unwrap();
+    let pv = pv2t(PvRegion::One, 3.0, 0.001, STEP_LIMIT).unwrap();
     answers("1 pv 3 0.001", searched("T", "K", "(relative)", pv));
-    let pv = pv2t(Region::Two, 1.0, 0.3, STEP_LIMIT).unwrap();
+    let pv = pv2t(PvRegion::Two, 1.0, 0.3, STEP_LIMIT).unwrap();
     answers("2 pv 1 0.3", searched("T", "K", "m^3/kg", pv));
     let tv = tv2p(Region::One, 500.0, 0.0012, STEP_LIMIT).unwrap();
     answers("1 Tv 500 0.0012", searched("p", "MPa", "m^3/kg", tv));
@@ -65,6 +69,12 @@ fn a_search_is_seven_lines() {
     answers("2 Tv 500 0.1", searched("p", "MPa", "(relative)", tv));
     let th = th2p(Region::Two, 600.0, 3000.0, STEP_LIMIT).unwrap();
     answers("2 Th 600 3000", searched("p", "MPa", "kJ/kg", th));
+    let tv = tv2p(Region::Five, 1500.0, 1.3845, STEP_LIMIT).unwrap();
+    answers("5 Tv 1500 1.3845", searched("p", "MPa", "m^3/kg", tv));
+    let th = th2p(Region::Five, 1500.0, 5200.0, STEP_LIMIT).unwrap();
+    answers("5 Th 1500 5200", searched("p", "MPa", "kJ/kg", th));
+    let ts = ts2p(Region::Five, 1500.0, 9.0, STEP_LIMIT).unwrap();
+    answers("5 Ts 1500 9", searched("p", "MPa", "kJ/(kg K)", ts));
     let ts = ts2p(Region::Two, 500.0, 7.2, 40).unwrap();
     let expected = searched("p", "MPa", "kJ/(kg K)", ts);
     assert_eq!(expected.lines().count(), 7);
@@ -99,12 +109,17 @@ fn a_refusal_is_on_standard_output_with_status_1() {
         ("2 Ts 500 -inf", 1, "region 2, T = 500.0 K, s = -inf kJ/(kg K), where p"),
         ("1 pT v 1e999 300", 1, "region 1, p = inf MPa, T = 300.0 K, where v"),
         ("1 pT w 3 700", 2, "region 1, p = 3.0 MPa, T = 700.0 K, where w"),
+        ("5 pT cv 0.5 1073", 2, "region 5, p = 0.5 MPa, T = 1073.0 K, where cv"),
+        ("5 Ts 2274 9", 2, "region 5, T = 2274.0 K, s = 9.0 kJ/(kg K), where p"),
+        ("5 pT u 50.5 1500", 3, "region 5, p = 50.5 MPa, T = 1500.0 K, where u"),
         ("sat p 273", 2, "the saturation line, T = 273.0 K, where p"),
         ("2 pT v -0 300", 3, "region 2, p = -0.0 MPa, T = 300.0 K, where v"),
         ("b23 T -5", 3, "B23, p = -5.0 MPa, where T"),
         ("2 pv 1 0", 4, "region 2, p = 1.0 MPa, v = 0.0 m^3/kg, where T"),
+        ("5 Tv 1500 -1", 4, "region 5, T = 1500.0 K, v = -1.0 m^3/kg, where p"),
         ("1 pv 0.000611212677444 0.001", 5, "region 1, p = 0.000611212677444 MPa, v = 0.001 m^3/kg, where T"),
         ("1 pv 0.1 0.00100015", 7, "region 1, p = 0.1 MPa, v = 0.00100015 m^3/kg, where T"),
+        ("5 Th 1500 2900", 7, "region 5, T = 1500.0 K, h = 2900.0 kJ/kg, where p"),
         ("2 Th 300 1e300", 7, "region 2, T = 300.0 K, h = 1e300 kJ/kg, where p"),
         ("1 pv 3 0.001 --limit 65536", 11, "region 1, p = 3.0 MPa, v = 0.001 m^3/kg, where T"),
         ("1 pv NaN 0.001 --limit 4294967295", 11, "region 1, p = NaN MPa, v = 0.001 m^3/kg, where T"),
@@ -171,10 +186,18 @@ fn a_larger_limit_leaves_every_byte_of_an_answer() {
 }
 
 /// Command lines that are wrong, and what is said of them.
-const WRONG: [(&str, &str); 17] = [
+const WRONG: [(&str, &str); 19] = [
     (
         "3 pT v 3 300",
-        "word 1, \"3\", is no region or line: it is one of 1, 2, sat, b23",
+        "word 1, \"3\", is no region or line: it is one of 1, 2, 5, sat, b23",
+    ),
+    (
+        "5 pv 0.5 1.3845",
+        "word 2, \"pv\", is no pair of this region: region 5 has no (p,v); regions 1 and 2 have it",
+    ),
+    (
+        "--limit 40 5 pv",
+        "word 4, \"pv\", is no pair of this region: region 5 has no (p,v); regions 1 and 2 have it",
     ),
     (
         "1 pt v 3 300",
@@ -269,6 +292,8 @@ fn bits_both_ways() {
         ("1 pv", &[3.0, 0.001], ""),
         ("2 Ts", &[500.0, 7.2], ""),
         ("2 Ts", &[500.0, 7.2], " --limit 2"),
+        ("5 pT cv", &[0.5, 1500.0], ""),
+        ("5 Tv", &[1500.0, 1.3845], ""),
         ("2 Tv", &[500.0, -0.0], ""),
     ] {
         let written = |double: fn(f64) -> String| {
@@ -328,6 +353,8 @@ fn help_and_nothing() {
         "--limit",
         "--diagram",
         "--version",
+        "5 (steam, 1073.15 to 2273.15 K, up to 50 MPa)",
+        "Region 5 has no pv",
         "0 to 65535",
         "what it is of",
         "residuals",

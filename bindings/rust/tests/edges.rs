@@ -1,5 +1,9 @@
 //! Document 01's readings 10 to 16, with their neighbours: as document 01 has them, and bit for bit as the program `edges` prints them (crates/edges/stdout).
+//! And where document 02's region 5 begins and stops.
+mod searches;
+
 use climboat::*;
+use searches::target;
 
 /// What `edges` says under this name.
 fn stored(name: &str) -> &'static str {
@@ -103,7 +107,7 @@ fn readings_10_to_12() {
 #[test]
 fn reading_13_is_the_lower_end() {
     let reading = pv2t(
-        Region::One,
+        PvRegion::One,
         100.0,
         volume(Region::One, 100.0, 273.15),
         STEP_LIMIT,
@@ -147,7 +151,7 @@ fn reading_14_both_ends_of_the_saturation_line() {
 #[test]
 fn reading_15_limit_0_leaves_the_starting_bracket() {
     let v = volume(Region::One, 3.0, 300.0);
-    let bisection = pv2t(Region::One, 3.0, v, 0);
+    let bisection = pv2t(PvRegion::One, 3.0, v, 0);
     let refusal = bisection.unwrap_err();
     let saturation = saturation_temperature(3.0).unwrap().value;
     assert_eq!((refusal.number, refusal.steps), (8, 0));
@@ -171,7 +175,7 @@ fn reading_16_refuses_though_temperatures_exist() {
         volume(Region::One, 1.0, 277.0),
         volume(Region::One, 1.0, 273.15),
     );
-    let between = pv2t(Region::One, 1.0, 0.5 * (warm + cold), STEP_LIMIT);
+    let between = pv2t(PvRegion::One, 1.0, 0.5 * (warm + cold), STEP_LIMIT);
     assert_eq!(between.unwrap_err().cause(), Cause::SameSign);
     assert!(between
         .unwrap_err()
@@ -183,7 +187,7 @@ fn reading_16_refuses_though_temperatures_exist() {
     );
     same(
         "16: the ends, 1 MPa, v at 273.15 K",
-        pv2t(Region::One, 1.0, cold, STEP_LIMIT),
+        pv2t(PvRegion::One, 1.0, cold, STEP_LIMIT),
     );
 }
 
@@ -209,7 +213,7 @@ fn step_limits() {
     for limit in limits("bisection") {
         same(
             &format!("bisection, limit {limit}"),
-            pv2t(Region::One, 3.0, v, limit),
+            pv2t(PvRegion::One, 3.0, v, limit),
         );
     }
     for limit in limits("Brent") {
@@ -222,12 +226,12 @@ fn step_limits() {
     for limit in limits("exact end") {
         same(
             &format!("exact end, limit {limit}"),
-            pv2t(Region::One, 1.0, cold, limit),
+            pv2t(PvRegion::One, 1.0, cold, limit),
         );
     }
     same(
         "limit 65536 before NaN",
-        pv2t(Region::One, f64::NAN, f64::NAN, 65_536),
+        pv2t(PvRegion::One, f64::NAN, f64::NAN, 65_536),
     );
 }
 
@@ -236,17 +240,17 @@ fn the_order_of_refusals() {
     let limit = STEP_LIMIT;
     same(
         "NaN before p out of range",
-        pv2t(Region::One, 0.0, f64::NAN, limit),
+        pv2t(PvRegion::One, 0.0, f64::NAN, limit),
     );
     same(
         "p out of range before v",
-        pv2t(Region::One, 0.0, -1.0, limit),
+        pv2t(PvRegion::One, 0.0, -1.0, limit),
     );
     same(
         "T out of range before v",
         tv2p(Region::One, 700.0, -1.0, limit),
     );
-    same("v = 0", pv2t(Region::Two, 1.0, 0.0, limit));
+    same("v = 0", pv2t(PvRegion::Two, 1.0, 0.0, limit));
     same("v = -0", tv2p(Region::Two, 500.0, -0.0, limit));
     same(
         "v the least double",
@@ -258,7 +262,7 @@ fn the_order_of_refusals() {
     );
     same(
         "region 1 (p,v), p = 0.000611212677444",
-        pv2t(Region::One, 0.000611212677444, 0.001, limit),
+        pv2t(PvRegion::One, 0.000611212677444, 0.001, limit),
     );
 }
 
@@ -269,7 +273,7 @@ fn each_pair_of_region_1() {
         .value;
     same(
         "region 1 (p,v), p = 100",
-        pv2t(Region::One, 100.0, 0.001, STEP_LIMIT),
+        pv2t(PvRegion::One, 100.0, 0.001, STEP_LIMIT),
     );
     same(
         "region 1 (T,v), T = 273.15",
@@ -295,7 +299,7 @@ fn each_pair_of_region_2() {
         .value;
     same(
         "region 2 (p,v), p = 1.0e-8",
-        pv2t(Region::Two, 1.0e-8, 2.0e7, STEP_LIMIT),
+        pv2t(PvRegion::Two, 1.0e-8, 2.0e7, STEP_LIMIT),
     );
     same(
         "region 2 (T,v), a pressure of a low vacuum",
@@ -309,6 +313,153 @@ fn each_pair_of_region_2() {
         "region 2 (T,s), T = 863.15",
         ts2p(Region::Two, 863.15, 6.0, STEP_LIMIT),
     );
+}
+
+/// What `edges` says at a limit, and at the doubles next to it.
+#[track_caller]
+fn beside(name: &str, limit: f64, call: impl Fn(f64) -> Result<Reading, Refusal>) {
+    same(
+        &format!("{name}, the double below"),
+        call(limit.next_down()),
+    );
+    same(name, call(limit));
+    same(&format!("{name}, the double above"), call(limit.next_up()));
+}
+
+#[test]
+fn the_limits_of_region_5() {
+    let at_p = |of, p| move |t| property(Region::Five, of, p, t);
+    let at_t = |of, t| move |p| property(Region::Five, of, p, t);
+    let by = |pair, target| move |t| search(pair, Region::Five, t, target, STEP_LIMIT);
+    beside(
+        "region 5, T = 1073.15",
+        1073.15,
+        at_p(Property::SpeedOfSound, 1.0),
+    );
+    beside("region 5, T = 2273.15", 2273.15, at_p(Property::Cv, 50.0));
+    beside(
+        "region 5, p = 1.0e-8",
+        1.0e-8,
+        at_t(Property::Entropy, 1500.0),
+    );
+    beside("region 5, p = 50", 50.0, at_t(Property::Enthalpy, 1500.0));
+    beside("region 5 (T,v), T = 1073.15", 1073.15, by(Pair::Tv, 0.5));
+    beside("region 5 (T,h), T = 2273.15", 2273.15, by(Pair::Th, 7370.0));
+    beside("region 5 (T,s), T = 1073.15", 1073.15, by(Pair::Ts, 8.0));
+}
+
+#[test]
+fn each_pair_of_region_5() {
+    let of = |of, p, t| property(Region::Five, of, p, t).unwrap().value;
+    let v = volume(Region::Five, 0.5, 1500.0);
+    let tv = |t, v, limit| tv2p(Region::Five, t, v, limit);
+    same(
+        "region 5, p NaN",
+        property(Region::Five, Property::Volume, f64::NAN, 1500.0),
+    );
+    same("region 5 (T,v), v = 0", tv(1500.0, 0.0, STEP_LIMIT));
+    same("region 5 (T,v), limit 0", tv(1500.0, v, 0));
+    same("region 5 (T,v), a pressure", tv(1500.0, v, STEP_LIMIT));
+    same(
+        "region 5 (T,v), the upper end",
+        tv(2273.15, volume(Region::Five, 50.0, 2273.15), STEP_LIMIT),
+    );
+    let th = |h| th2p(Region::Five, 1500.0, h, STEP_LIMIT);
+    same(
+        "region 5 (T,h), a pressure",
+        th(of(Property::Enthalpy, 30.0, 1500.0)),
+    );
+    same(
+        "region 5 (T,h), an enthalpy of another temperature",
+        th(of(Property::Enthalpy, 30.0, 2000.0)),
+    );
+    let s = of(Property::Entropy, 1.0e-5, 2000.0);
+    same(
+        "region 5 (T,s), a pressure of a low vacuum",
+        ts2p(Region::Five, 2000.0, s, STEP_LIMIT),
+    );
+}
+
+/// The number by which every property of a region is refused at (p,T), or 0 where every one is answered.
+#[track_caller]
+fn number(region: Region, p: f64, t: f64) -> u32 {
+    let answers = Property::ALL.iter().map(|&of| property(region, of, p, t));
+    let mut numbers: Vec<u32> = answers
+        .map(|answer| answer.map_or_else(|refusal| refusal.number, |_| 0))
+        .collect();
+    numbers.dedup();
+    assert_eq!(numbers.len(), 1, "{region:?} {p:?} {t:?}: {numbers:?}");
+    numbers[0]
+}
+
+#[test]
+fn at_1073_15_the_named_region_decides() {
+    let t = 1073.15_f64;
+    for p in [1.0e-8, 0.5, 50.0] {
+        assert_eq!(number(Region::Two, p, t), 0);
+        assert_eq!(number(Region::Five, p, t), 0);
+        assert_eq!(number(Region::Two, p, t.next_up()), 2);
+        assert_eq!(number(Region::Five, p, t.next_down()), 2);
+        assert_ne!(volume(Region::Two, p, t), volume(Region::Five, p, t), "{p}");
+    }
+    assert_eq!(number(Region::Two, 100.0, t), 0);
+    assert_eq!(number(Region::Five, 100.0, t), 3);
+}
+
+#[test]
+fn where_region_5_stops() {
+    for t in [1073.15, 1500.0, 2273.15] {
+        for p in [1.0e-8, 0.5, 50.0] {
+            assert_eq!(number(Region::Five, p, t), 0, "{p} {t}");
+        }
+        assert_eq!(number(Region::Five, 50.0_f64.next_up(), t), 3);
+        assert_eq!(number(Region::Five, 1.0e-8_f64.next_down(), t), 3);
+    }
+    assert_eq!(number(Region::Five, 0.5, 2273.15_f64.next_up()), 2);
+    // 1 before 2 before 3
+    assert_eq!(number(Region::Five, f64::NAN, 300.0), 1);
+    assert_eq!(number(Region::Five, 0.0, 2273.15_f64.next_up()), 2);
+    assert_eq!(number(Region::Five, -0.0, 2273.15), 3);
+}
+
+#[test]
+fn a_search_of_region_5_begins_with_its_pressures() {
+    for t in [1073.15, 2273.15] {
+        for pair in [Pair::Tv, Pair::Th, Pair::Ts] {
+            let of = |p| property(Region::Five, target(pair), p, t).unwrap().value;
+            let find = |wanted, limit| search(pair, Region::Five, t, wanted, limit);
+            let bracket = find(of(0.5), 0).unwrap_err().bracket;
+            assert_eq!((bracket.lower, bracket.upper), (1.0e-8, 50.0), "{pair:?}");
+            for end in [1.0e-8, 50.0] {
+                let reading = find(of(end), 0).unwrap();
+                assert_eq!((reading.value, reading.reason), (end, Reason::ExactEnd));
+                assert!(reading.is_inside(), "{reading:?}");
+            }
+            let found = find(of(0.5), STEP_LIMIT).unwrap();
+            assert!((found.value - 0.5).abs() < 1.0e-6, "{found:?}");
+        }
+    }
+}
+
+#[test]
+fn a_search_of_region_5_refuses_in_the_order_of_the_table() {
+    let numbers = |pair, t, target| {
+        [STEP_LIMIT, LARGEST_STEP_LIMIT + 1].map(|limit| {
+            let answer = search(pair, Region::Five, t, target, limit);
+            answer.unwrap_err().number
+        })
+    };
+    let (cold, hot) = (1073.15_f64.next_down(), 2273.15_f64.next_up());
+    for pair in [Pair::Tv, Pair::Th, Pair::Ts] {
+        assert_eq!(numbers(pair, cold, f64::NAN), [1, 11]);
+        assert_eq!(numbers(pair, cold, -1.0), [2, 11]);
+        assert_eq!(numbers(pair, hot, -1.0), [2, 11]);
+    }
+    assert_eq!(numbers(Pair::Tv, 1500.0, 0.0), [4, 11]);
+    assert_eq!(numbers(Pair::Th, 1500.0, 0.0), [7, 11]);
+    assert_eq!(numbers(Pair::Ts, 1500.0, 0.0), [7, 11]);
+    // a region that a pair has not comes before everything
+    assert_eq!(numbers(Pair::Pv, f64::NAN, -1.0), [21, 21]);
 }
 
 #[test]

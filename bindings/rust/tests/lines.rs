@@ -26,6 +26,7 @@ fn each_line_is_answered_in_its_place() {
         "sat T 1",
         "2 Ts 500 7.2 --limit 2",
         "2 pT v 0 300",
+        "5 Ts 1500 9",
     ];
     let answered = fed("--lines", asked.join("\n").as_bytes());
     assert_eq!(
@@ -110,6 +111,7 @@ fn a_bad_line_is_named_and_stops_nothing() {
         long.as_bytes(),
         b"--help\n",
         b"--lines\n",
+        b"5 pv 0.5 1.3845\n",
         b"sat T 1",
     ]
     .concat();
@@ -121,11 +123,12 @@ fn a_bad_line_is_named_and_stops_nothing() {
         "bad line 3: longer than 4096 bytes",
         "bad line 4: word 1, \"--help\", is no option of a request",
         "bad line 5: word 1, \"--lines\", is no option of a request",
+        "bad line 6: word 2, \"pv\", is no pair of this region: region 5 has no (p,v); regions 1 and 2 have it",
     ];
     for (line, start) in lines.iter().zip(bad) {
         assert!(line.starts_with(start), "{line}");
     }
-    assert_eq!(lines[5..], [joined("sat T 1")]);
+    assert_eq!(lines[bad.len()..], [joined("sat T 1")]);
     assert_eq!((answered.status, answered.err.as_str()), (2, ""));
 }
 

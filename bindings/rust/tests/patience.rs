@@ -1,5 +1,8 @@
 //! What the step limit of a search may change: nothing but 8; and what the steps of an outcome promise.
+mod searches;
+
 use climboat::*;
+use searches::{searches, target};
 
 type Outcome = Result<Reading, Refusal>;
 
@@ -30,8 +33,8 @@ const PRESSURES: [f64; 9] = [
     50.0,
     100.0,
 ];
-const TEMPERATURES: [f64; 9] = [
-    273.15, 280.0, 300.0, 452.5, 500.0, 623.15, 700.0, 863.15, 1073.15,
+const TEMPERATURES: [f64; 11] = [
+    273.15, 280.0, 300.0, 452.5, 500.0, 623.15, 700.0, 863.15, 1073.15, 1500.0, 2273.15,
 ];
 /// Targets that are no state's.
 const STRANGE: [f64; 8] = [
@@ -45,21 +48,14 @@ const STRANGE: [f64; 8] = [
     1.0e300,
 ];
 
-/// The property that a pair has as its target.
-fn target(pair: Pair) -> Property {
-    let symbol = pair.kind().inputs()[1].symbol;
-    let mut found = Property::ALL.iter().filter(|of| of.symbol() == symbol);
-    *found.next().unwrap()
-}
-
 /// Every target at every pressure and temperature that a search may be given.
 fn of_search(pair: Pair, region: Region) -> Vec<Asking> {
     let (fixed, sought) = match pair {
-        Pair::Pv => (PRESSURES, TEMPERATURES),
-        _ => (TEMPERATURES, PRESSURES),
+        Pair::Pv => (&PRESSURES[..], &TEMPERATURES[..]),
+        _ => (&TEMPERATURES[..], &PRESSURES[..]),
     };
     let mut all = Vec::new();
-    for fixed in fixed {
+    for &fixed in fixed {
         let states = sought.iter().filter_map(|&x| {
             let (p, t) = if pair == Pair::Pv {
                 (fixed, x)
@@ -76,11 +72,6 @@ fn of_search(pair: Pair, region: Region) -> Vec<Asking> {
         }));
     }
     all
-}
-
-fn searches() -> impl Iterator<Item = (Pair, Region)> {
-    let regions = |&pair| Region::ALL.iter().map(move |&region| (pair, region));
-    Pair::ALL.iter().flat_map(regions)
 }
 
 /// The least limit that is enough for an outcome that is not 8.

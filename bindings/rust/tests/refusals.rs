@@ -1,7 +1,10 @@
 //! Refusals: each that can be reached, and what every call says of any doubles and any limit.
-use climboat::*;
+mod searches;
 
-const DOUBLES: [f64; 22] = [
+use climboat::*;
+use searches::searches;
+
+const DOUBLES: [f64; 25] = [
     f64::NAN,
     -f64::NAN,
     f64::INFINITY,
@@ -18,12 +21,15 @@ const DOUBLES: [f64; 22] = [
     0.0010005,
     1.0,
     16.5291643,
+    50.0,
     100.0,
     273.15,
     300.0,
     623.15,
     863.15,
     1073.15,
+    1500.0,
+    2273.15,
 ];
 const LIMITS: [u32; 6] = [
     0,
@@ -94,10 +100,7 @@ fn a_search_answers_or_refuses_by_the_table_whatever_its_inputs() {
         .iter()
         .flat_map(|first| DOUBLES.iter().map(move |second| (first, second)))
     {
-        for (&pair, &region) in Pair::ALL
-            .iter()
-            .flat_map(|pair| Region::ALL.iter().map(move |region| (pair, region)))
-        {
+        for (pair, region) in searches() {
             for limit in LIMITS {
                 let answer = search(pair, region, first, second, limit);
                 match answer {
@@ -124,6 +127,24 @@ fn a_search_answers_or_refuses_by_the_table_whatever_its_inputs() {
         seen.into_iter().collect::<Vec<u32>>(),
         [0, 1, 2, 3, 4, 5, 6, 7, 8, 11]
     );
+}
+
+#[test]
+fn a_pair_that_the_region_has_not_is_refused_by_21_whatever_its_inputs() {
+    for (&p, &v) in DOUBLES
+        .iter()
+        .flat_map(|p| DOUBLES.iter().map(move |v| (p, v)))
+    {
+        for limit in LIMITS {
+            let refusal = search(Pair::Pv, Region::Five, p, v, limit).unwrap_err();
+            assert_refusal(refusal, limit);
+            assert_eq!(refusal.cause(), Cause::NothingNamed, "{refusal:?}");
+            let asked = refusal.asked;
+            assert_eq!((asked.kind, asked.region), (Kind::Pv, None), "{refusal:?}");
+            let bits = [asked.first, asked.second].map(f64::to_bits);
+            assert_eq!(bits, [p, v].map(f64::to_bits), "{refusal:?}");
+        }
+    }
 }
 
 #[test]
@@ -176,10 +197,10 @@ fn the_lines_refuse_by_1_2_or_3() {
 #[test]
 fn a_refusal_is_an_error_like_others() {
     fn ask() -> Result<f64, Box<dyn std::error::Error>> {
-        Ok(pv2t(Region::One, 3.0, 0.001, 2)?.value)
+        Ok(pv2t(PvRegion::One, 3.0, 0.001, 2)?.value)
     }
     let shown = ask().unwrap_err().to_string();
-    let refusal = pv2t(Region::One, 3.0, 0.001, 2).unwrap_err();
+    let refusal = pv2t(PvRegion::One, 3.0, 0.001, 2).unwrap_err();
     let bracket = refusal.bracket;
     let expected = format!(
         "refused by 8: {}; of region 1, p = 3.0 MPa, v = 0.001 m^3/kg, where T was asked for; steps 2, bracket {:?} to {:?} K, residuals {:?} and {:?} (relative), last point {:?} K",

@@ -1,4 +1,4 @@
-//! The release's check values, Tables 5, 15, 35 and 36 and B23, to their nine digits: the values are those of crates/tables/stdout.
+//! The release's check values, Tables 5, 15, 35, 36 and 42 and B23, to their nine digits: the values are those of crates/tables/stdout.
 use climboat::*;
 
 /// A line such as "Table 5, 3 MPa, 300 K: v = 0.100215168e-2 agrees": the table, its inputs, the symbol and the value.
@@ -30,19 +30,15 @@ fn check(line: &str) -> Check<'_> {
 }
 
 fn answer(check: &Check) -> Result<Reading, Refusal> {
-    let region = if check.table == "Table 5" {
-        Region::One
-    } else {
-        Region::Two
+    let of_region = |region, p, t| {
+        let mut properties = Property::ALL.iter();
+        let of = properties.find(|property| property.symbol() == check.symbol);
+        property(region, *of.unwrap(), p, t)
     };
     match (check.table, &check.inputs[..], check.symbol) {
-        ("Table 5" | "Table 15", &[p, t], symbol) => {
-            let of = Property::ALL
-                .iter()
-                .find(|property| property.symbol() == symbol)
-                .unwrap();
-            property(region, *of, p, t)
-        }
+        ("Table 5", &[p, t], _) => of_region(Region::One, p, t),
+        ("Table 15", &[p, t], _) => of_region(Region::Two, p, t),
+        ("Table 42", &[p, t], _) => of_region(Region::Five, p, t),
         ("Table 35", &[t], "p") => saturation_pressure(t),
         ("Table 36", &[p], "T") => saturation_temperature(p),
         ("B23", &[t], "p") => b23_pressure(t),
@@ -69,6 +65,6 @@ fn the_release_agrees_to_nine_digits() {
         );
         checked += 1;
     }
-    // six properties at three states of Table 5 and of Table 15, three points of Table 35 and of Table 36, two of B23
-    assert_eq!(checked, 18 + 18 + 3 + 3 + 2);
+    // six properties at three states of Tables 5, 15 and 42 each, three points of Table 35 and of Table 36, two of B23
+    assert_eq!(checked, 3 * 18 + 3 + 3 + 2);
 }

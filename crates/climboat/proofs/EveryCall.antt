@@ -63,7 +63,7 @@ is n k h = sym (eqb→eq n k (subst T (sym h) tt))
 
 pub region-told : (n : ℕ) → (regionNumber (regionNamed n) ≡ n) ⊎ ((regionNumber (regionNamed n) ≡ 0) × None (regions n))
 unfolding regionNamed
-region-told n = decides (λ a. (regionNumber a ≡ n) ⊎ ((regionNumber a ≡ 0) × None (regions n))) (regions n) Nothing ((λ h. inl (is n 1 h)), ((λ h. inl (is n 2 h)), tt)) (λ h. inr (refl, h))
+region-told n = decides (λ a. (regionNumber a ≡ n) ⊎ ((regionNumber a ≡ 0) × None (regions n))) (regions n) Nothing ((λ h. inl (is n 1 h)), ((λ h. inl (is n 2 h)), ((λ h. inl (is n 5 h)), tt))) (λ h. inr (refl, h))
 
 pub pv-region-told : (n : ℕ) → (regionNumber (ofPv (pvRegionNamed n)) ≡ n) ⊎ ((regionNumber (ofPv (pvRegionNamed n)) ≡ 0) × None (pvRegions n))
 unfolding pvRegionNamed
@@ -75,3 +75,8 @@ property-told n =
     decides (λ a. (propertyNumber a ≡ n) ⊎ ((propertyNumber a ≡ 0) × None (properties n))) (properties n) Nothing''
     ((λ h. inl (is n 1 h)), ((λ h. inl (is n 2 h)), ((λ h. inl (is n 3 h)), ((λ h. inl (is n 4 h)), ((λ h. inl (is n 5 h)), ((λ h. inl (is n 6 h)), ((λ h. inl (is n 7 h)), tt)))))))
     (λ h. inr (refl, h))
+
+-- ---- (p,v) keeps its two regions: region 5 is refused by 21, whatever the inputs and the limit
+pub pv-of-region-5 : (p v : Float) (limit : ℕ) → calls.pv2T 5 p v limit ≡ calls.unnamed (ofPair Pv Nothing p v)
+unfolding calls.pv2T inPvRegion pvRegionNamed
+pv-of-region-5 p v limit = refl

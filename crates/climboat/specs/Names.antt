@@ -1,9 +1,9 @@
--- What a number names: regions 1 and 2 by their own numbers, the properties in document 01's order v, u, s, h, cp, cv, w. Any other number names nothing.
+-- What a number names: regions 1, 2 and 5 by their own numbers, of (p,v) 1 and 2 alone, the properties in document 01's order v, u, s, h, cp, cv, w. Any other number names nothing.
 use Prim.Native.Nat.{ℕ}
 use mathlib.Core.List.{List, [], _∷_}
 use lib.Dec.{eqb}
 use Rattle.search.specs.Decision.{Row, _⇒_, decided}
-use Rattle.pairs.specs.declared.row.Region.the-variants.{One, Two}
+use Rattle.pairs.specs.declared.row.Region.the-variants.{One, Two, Five}
 use Rattle.vessel.specs.declared.pair.PvRegion.the-variants.{One as One', Two as Two'}
 use Rattle.vessel.specs.declared.property.Property.the-variants.{Volume, InternalEnergy, Entropy, Enthalpy, Cp, Cv, SpeedOfSound}
 use Rattle.vessel.specs.declared.asked.NamedRegion as region
@@ -11,7 +11,7 @@ use Rattle.climboat.specs.declared.names.NamedPvRegion as pvRegion
 use Rattle.vessel.specs.declared.asked.NamedProperty as property
 
 abbrev pub regions : ℕ → List (Row region.NamedRegion)
-regions n = (eqb n 1 ⇒ region.the-variants.Names One) ∷ ((eqb n 2 ⇒ region.the-variants.Names Two) ∷ [])
+regions n = (eqb n 1 ⇒ region.the-variants.Names One) ∷ ((eqb n 2 ⇒ region.the-variants.Names Two) ∷ ((eqb n 5 ⇒ region.the-variants.Names Five) ∷ []))
 
 abbrev pub pvRegions : ℕ → List (Row pvRegion.NamedPvRegion)
 pvRegions n = (eqb n 1 ⇒ pvRegion.the-variants.Names One') ∷ ((eqb n 2 ⇒ pvRegion.the-variants.Names Two') ∷ [])

@@ -9,6 +9,7 @@ use Rattle.vessel.specs.Asked.{regionNumber, kindNumber, propertyNumber}
 use Rattle.vessel.specs.Answer.{Reason, none, plain, exactEnd, smallResidual, narrow, Mark, unmarked, inside, outside, columns}
 use Rattle.vessel.specs.declared.asked.Asked.{Asked}
 use Rattle.vessel.specs.declared.answer.Answer.{Answer}
+use Rattle.climboat.specs.declared.record.First.{First}
 
 abbrev pub reasonNumber : Reason → ℕ
 reasonNumber none = 0
@@ -25,16 +26,23 @@ markOf outside = 2
 unfoldable pub markNumber : Bool → ℕ
 markNumber b = markOf (cond b inside outside)
 
-abbrev pub whole : ℕ → ℕ → ℕ → ℕ → Asked → List ℕ
-whole number reason steps mark a =
-    number ∷ (reason ∷ (steps ∷ (mark ∷ (regionNumber (a .region) ∷ (kindNumber (a .kind) ∷ (propertyNumber (a .property) ∷ (0 ∷ [])))))))
+abbrev pub four : ℕ → ℕ → ℕ → ℕ → First
+four number reason steps mark = record { number = number; reason = reason; steps = steps; mark = mark }
+
+-- the first four
+abbrev pub told : Answer → First
+told a = four (columns a .number) (reasonNumber (columns a .reason)) (columns a .steps) (markOf (columns a .mark))
+
+abbrev pub whole : First → Asked → List ℕ
+whole t a =
+    t .number ∷ (t .reason ∷ (t .steps ∷ (t .mark ∷ (regionNumber (a .region) ∷ (kindNumber (a .kind) ∷ (propertyNumber (a .property) ∷ (0 ∷ [])))))))
 
 abbrev pub fractions : Float → Float → Float → Float → Float → Asked → List Float
 fractions value lower upper lower-residual upper-residual a =
     value ∷ (lower ∷ (upper ∷ (lower-residual ∷ (upper-residual ∷ (a .first ∷ (a .second ∷ (nought ∷ [])))))))
 
 unfoldable pub numbers : Answer → List ℕ
-numbers a = whole (columns a .number) (reasonNumber (columns a .reason)) (columns a .steps) (markOf (columns a .mark)) (columns a .asked)
+numbers a = whole (told a) (columns a .asked)
 
 unfoldable pub doubles : Answer → List Float
 doubles a = fractions (columns a .value) (columns a .lower) (columns a .upper) (columns a .lower-residual) (columns a .upper-residual) (columns a .asked)

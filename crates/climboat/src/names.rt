@@ -21,6 +21,9 @@ pub fn region(number: u32) -> NamedRegion
     if number == 2 {
         return NamedRegion::Names(Region::Two);
     }
+    if number == 5 {
+        return NamedRegion::Names(Region::Five);
+    }
     NamedRegion::Nothing
 }
 

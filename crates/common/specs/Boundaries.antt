@@ -6,10 +6,10 @@ use lib.Ieee.Scale.{finite}
 use Rattle.exact.specs.Operations.{_⊕_, _⊖_, _⊗_, _⊘_}
 use Rattle.float.specs.Decimal.{rounded}
 use Rattle.float.specs.Root.{squareRoot}
-use Rattle.common.specs.Constant.{T-least, T-623, T-critical, T-863, T-1073, p-least, p-least-1, p-least-4, p-623, p-critical, p-most}
+use Rattle.common.specs.Constant.{T-least, T-623, T-critical, T-863, T-1073, T-2273, p-least, p-least-1, p-least-4, p-623, p-critical, p-50, p-most}
 use Rattle.common.specs.Table1.{n1, n2, n3, n4, n5}
 use Rattle.common.specs.declared.boundaries.Range.{Range}
-use Rattle.common.specs.declared.boundaries.Range.the-variants.{T1, P1, T2, P2, T4, P4, T23, P23}
+use Rattle.common.specs.declared.boundaries.Range.the-variants.{T1, P1, T2, P2, T5, P5, T4, P4, T23, P23}
 use Rattle.common.specs.declared.boundaries.Boundary.{Boundary}
 use Rattle.common.specs.declared.boundaries.Boundary.the-variants.{At, Refused}
 
@@ -22,12 +22,14 @@ unfoldable pub B23-T : Float → Float
 B23-T p = rounded n4 ⊕ squareRoot ((p ⊖ rounded n5) ⊘ rounded n3)
 
 -- ---- ranges, both ends included; a NaN is in none
--- The ranges of document 01, "Where each region begins and stops", that read no boundary. Region 1's p is that of (p,v): for (p,T) the saturation pressure stands in place of the lower end.
+-- The ranges of document 01, "Where each region begins and stops", that read no boundary, and those of region 5 (document 02, §2). Region 1's p is that of (p,v): for (p,T) the saturation pressure stands in place of the lower end.
 abbrev pub least : Range → Float
 least T1 = T-least
 least P1 = p-least-1
 least T2 = T-least
 least P2 = p-least
+least T5 = T-1073
+least P5 = p-least
 least T4 = T-least
 least P4 = p-least-4
 least T23 = T-623
@@ -38,6 +40,8 @@ most T1 = T-623
 most P1 = p-most
 most T2 = T-1073
 most P2 = p-most
+most T5 = T-2273
+most P5 = p-50
 most T4 = T-critical
 most P4 = p-critical
 most T23 = T-863
@@ -52,6 +56,8 @@ ofPressures T1 = false
 ofPressures P1 = true
 ofPressures T2 = false
 ofPressures P2 = true
+ofPressures T5 = false
+ofPressures P5 = true
 ofPressures T4 = false
 ofPressures P4 = true
 ofPressures T23 = false

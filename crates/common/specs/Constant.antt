@@ -22,6 +22,9 @@ T-863 = rounded (number 86315 (− 2))
 abbrev pub T-1073 : Float
 T-1073 = rounded (number 107315 (− 2))
 
+abbrev pub T-2273 : Float
+T-2273 = rounded (number 227315 (− 2))
+
 -- ---- pressures
 abbrev pub p-least : Float
 p-least = rounded (number 1 (− 8))
@@ -38,6 +41,10 @@ p-623 = rounded (number 165291643 (− 7))
 
 abbrev pub p-critical : Float
 p-critical = rounded (number 22064 (− 3))
+
+-- the highest pressure of region 5
+abbrev pub p-50 : Float
+p-50 = rounded (number 50 (+ 0))
 
 abbrev pub p-most : Float
 p-most = rounded (number 100 (+ 0))

@@ -3,6 +3,7 @@ ghost use mathlib.Core.Path.{_≡_};
 ghost use Rattle.common.specs.Boundaries.{B23-p, B23-T, least as leastOf, most as mostOf, inside as insideOf, ofPressures, numberOf, found as foundOf, checked as checkedOf};
 use crate::constant::P_MAX;
 use crate::constant::P_MAX4;
+use crate::constant::P_MAX5;
 use crate::constant::P_MIN1;
 use crate::constant::P_MIN2;
 use crate::constant::P_MIN3;
@@ -11,6 +12,7 @@ use crate::constant::T_MAX1;
 use crate::constant::T_MAX2;
 use crate::constant::T_MAX3;
 use crate::constant::T_MAX4;
+use crate::constant::T_MAX5;
 use crate::constant::T_MIN;
 use float::root::sqrt;
 use float::sign::is_finite;
@@ -35,12 +37,14 @@ pub fn B23_p2T(p: f64) -> f64
     0.57254459862746e3 + sqrt((p - 0.13918839778870e2) / 0.10192970039326e-2)
 }
 
-// The ranges of document 01 that read no boundary: of T and p in region 1, region 2, on the saturation line and on B23.
+// The ranges of document 01 that read no boundary: of T and p in region 1, region 2, region 5, on the saturation line and on B23.
 pub enum Range {
     T1,
     P1,
     T2,
     P2,
+    T5,
+    P5,
     T4,
     P4,
     T23,
@@ -55,6 +59,8 @@ fn least(range: Range) -> f64
         Range::P1 => P_MIN1,
         Range::T2 => T_MIN,
         Range::P2 => P_MIN2,
+        Range::T5 => T_MAX2,
+        Range::P5 => P_MIN2,
         Range::T4 => T_MIN,
         Range::P4 => P_MIN4,
         Range::T23 => T_MAX1,
@@ -70,6 +76,8 @@ fn most(range: Range) -> f64
         Range::P1 => P_MAX,
         Range::T2 => T_MAX2,
         Range::P2 => P_MAX,
+        Range::T5 => T_MAX5,
+        Range::P5 => P_MAX5,
         Range::T4 => T_MAX4,
         Range::P4 => P_MAX4,
         Range::T23 => T_MAX3,
@@ -96,6 +104,8 @@ pub fn of_pressures(range: Range) -> bool
         Range::P1 => true,
         Range::T2 => false,
         Range::P2 => true,
+        Range::T5 => false,
+        Range::P5 => true,
         Range::T4 => false,
         Range::P4 => true,
         Range::T23 => false,

@@ -13,6 +13,8 @@ pub const T_MAX3: f64 = 863.15;
 
 pub const T_MAX4: f64 = 647.096;
 
+pub const T_MAX5: f64 = 2273.15;
+
 pub const P_MIN1: f64 = 0.000611212677444;
 
 pub const P_MIN2: f64 = 1.0e-8;
@@ -24,3 +26,5 @@ pub const P_MIN4: f64 = 0.000611212677;
 pub const P_MAX: f64 = 100.0;
 
 pub const P_MAX4: f64 = 22.064;
+
+pub const P_MAX5: f64 = 50.0;

@@ -5,6 +5,9 @@ use r1::region1_pT::pT2v_reg1;
 use r2::region2_pT::pT2h_reg2;
 use r2::region2_pT::pT2v_reg2;
 use r4::region4_sat_pT::p_saturation_formula;
+use r5::region5_pT::pT2h_reg5;
+use r5::region5_pT::pT2s_reg5;
+use r5::region5_pT::pT2v_reg5;
 use show::answer;
 use vessel::pair::PvRegion;
 use vessel::pair::STEP_LIMIT;
@@ -342,6 +345,70 @@ pub fn inside() {
         Region::One,
         500.0,
         pT2v_reg1(p_saturation_formula(500.0), 500.0),
+        STEP_LIMIT,
+    );
+}
+
+// Region 5: what is not finite, no volume, no step, and a pressure found by (T,v).
+pub fn region5() {
+    by_pT(
+        b"region 5, p NaN",
+        Region::Five,
+        Property::Volume,
+        0.0 / 0.0,
+        1500.0,
+    );
+    by_Tv(
+        b"region 5 (T,v), v = 0",
+        Region::Five,
+        1500.0,
+        0.0,
+        STEP_LIMIT,
+    );
+    by_Tv(
+        b"region 5 (T,v), limit 0",
+        Region::Five,
+        1500.0,
+        pT2v_reg5(0.5, 1500.0),
+        0,
+    );
+    by_Tv(
+        b"region 5 (T,v), a pressure",
+        Region::Five,
+        1500.0,
+        pT2v_reg5(0.5, 1500.0),
+        STEP_LIMIT,
+    );
+}
+
+// Region 5: a pressure found by the other pairs, the upper end, and a target that both ends lie on one side of.
+pub fn region5_h_s() {
+    by_Th(
+        b"region 5 (T,h), a pressure",
+        Region::Five,
+        1500.0,
+        pT2h_reg5(30.0, 1500.0),
+        STEP_LIMIT,
+    );
+    by_Ts(
+        b"region 5 (T,s), a pressure of a low vacuum",
+        Region::Five,
+        2000.0,
+        pT2s_reg5(1.0e-5, 2000.0),
+        STEP_LIMIT,
+    );
+    by_Tv(
+        b"region 5 (T,v), the upper end",
+        Region::Five,
+        2273.15,
+        pT2v_reg5(50.0, 2273.15),
+        STEP_LIMIT,
+    );
+    by_Th(
+        b"region 5 (T,h), an enthalpy of another temperature",
+        Region::Five,
+        1500.0,
+        pT2h_reg5(30.0, 2000.0),
         STEP_LIMIT,
     );
 }

@@ -117,6 +117,38 @@ pub fn rule_p() {
     );
 }
 
+// The (p,T) rule of region 5. At 1073.15 K the named region decides: region 2 there stands above.
+pub fn rule_5() {
+    limit(
+        b"region 5, T = 1073.15",
+        Call::PropertyAtP(Region::Five, Property::SpeedOfSound, 1.0),
+        1073.1499999999999,
+        1073.15,
+        1073.1500000000003,
+    );
+    limit(
+        b"region 5, T = 2273.15",
+        Call::PropertyAtP(Region::Five, Property::Cv, 50.0),
+        2273.1499999999996,
+        2273.15,
+        2273.1500000000005,
+    );
+    limit(
+        b"region 5, p = 1.0e-8",
+        Call::PropertyAtT(Region::Five, Property::Entropy, 1500.0),
+        9.999999999999999e-09,
+        1.0e-08,
+        1.0000000000000002e-08,
+    );
+    limit(
+        b"region 5, p = 50",
+        Call::PropertyAtT(Region::Five, Property::Enthalpy, 1500.0),
+        49.99999999999999,
+        50.0,
+        50.00000000000001,
+    );
+}
+
 // Reading 14, and T of the saturation line.
 pub fn saturation() {
     limit(
@@ -242,5 +274,30 @@ pub fn ranges_T() {
         623.1499999999999,
         623.15,
         623.1500000000001,
+    );
+}
+
+// T of the searches in region 5.
+pub fn ranges_T_5() {
+    limit(
+        b"region 5 (T,v), T = 1073.15",
+        Call::FromTv(Region::Five, 0.5),
+        1073.1499999999999,
+        1073.15,
+        1073.1500000000003,
+    );
+    limit(
+        b"region 5 (T,h), T = 2273.15",
+        Call::FromTh(Region::Five, 7370.0),
+        2273.1499999999996,
+        2273.15,
+        2273.1500000000005,
+    );
+    limit(
+        b"region 5 (T,s), T = 1073.15",
+        Call::FromTs(Region::Five, 8.0),
+        1073.1499999999999,
+        1073.15,
+        1073.1500000000003,
     );
 }

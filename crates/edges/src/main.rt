@@ -10,6 +10,7 @@ fn main() {
     calls::least();
     limits::rule_T();
     limits::rule_p();
+    limits::rule_5();
     limits::saturation();
     calls::saturation();
     limits::b23();
@@ -20,6 +21,9 @@ fn main() {
     calls::places();
     limits::ranges_p();
     limits::ranges_T();
+    limits::ranges_T_5();
     calls::outside();
     calls::inside();
+    calls::region5();
+    calls::region5_h_s();
 }

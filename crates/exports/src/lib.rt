@@ -8,6 +8,7 @@ ghost use Rattle.float.specs.Log.{logarithm};
 ghost use Rattle.common.specs.Boundaries.{B23-p, B23-T};
 ghost use Rattle.r1.specs.Region1 as region1;
 ghost use Rattle.r2.specs.Region2 as region2;
+ghost use Rattle.r5.specs.Region5 as region5;
 ghost use Rattle.r4.specs.Saturation.{saturationPressure, saturationTemperature};
 
 #[no_mangle]
@@ -169,6 +170,55 @@ pub extern "C" fn region2_w(p: f64, T: f64) -> f64
     ensures { λ r. ⌜ r ≡ region2.pT2w p T ⌝ }
 {
     r2::region2_pT::pT2w_reg2(p, T)
+}
+
+#[no_mangle]
+pub extern "C" fn region5_v(p: f64, T: f64) -> f64
+    ensures { λ r. ⌜ r ≡ region5.pT2v p T ⌝ }
+{
+    r5::region5_pT::pT2v_reg5(p, T)
+}
+
+#[no_mangle]
+pub extern "C" fn region5_u(p: f64, T: f64) -> f64
+    ensures { λ r. ⌜ r ≡ region5.pT2u p T ⌝ }
+{
+    r5::region5_pT::pT2u_reg5(p, T)
+}
+
+#[no_mangle]
+pub extern "C" fn region5_s(p: f64, T: f64) -> f64
+    ensures { λ r. ⌜ r ≡ region5.pT2s p T ⌝ }
+{
+    r5::region5_pT::pT2s_reg5(p, T)
+}
+
+#[no_mangle]
+pub extern "C" fn region5_h(p: f64, T: f64) -> f64
+    ensures { λ r. ⌜ r ≡ region5.pT2h p T ⌝ }
+{
+    r5::region5_pT::pT2h_reg5(p, T)
+}
+
+#[no_mangle]
+pub extern "C" fn region5_cp(p: f64, T: f64) -> f64
+    ensures { λ r. ⌜ r ≡ region5.pT2cp p T ⌝ }
+{
+    r5::region5_pT::pT2cp_reg5(p, T)
+}
+
+#[no_mangle]
+pub extern "C" fn region5_cv(p: f64, T: f64) -> f64
+    ensures { λ r. ⌜ r ≡ region5.pT2cv p T ⌝ }
+{
+    r5::region5_pT::pT2cv_reg5(p, T)
+}
+
+#[no_mangle]
+pub extern "C" fn region5_w(p: f64, T: f64) -> f64
+    ensures { λ r. ⌜ r ≡ region5.pT2w p T ⌝ }
+{
+    r5::region5_pT::pT2w_reg5(p, T)
 }
 
 #[no_mangle]

@@ -6,7 +6,7 @@ use mathlib.Core.List.{List, [], _∷_}
 use types.Run.{OneOf}
 use denote.Enum.Declared.{tagOf}
 use Rattle.pairs.specs.declared.row.Pair.{Pair}
-use Rattle.pairs.specs.declared.row.Pair.the-variants.{Pv1, Tv1, Th1, Ts1, Pv2, Tv2, Th2, Ts2}
+use Rattle.pairs.specs.declared.row.Pair.the-variants.{Pv1, Tv1, Th1, Ts1, Pv2, Tv2, Th2, Ts2, Tv5, Th5, Ts5}
 use Rattle.pairs.proofs.row.Pair.{the-type}
 
 -- P of the pair at a place of a list, counted from 0, and of each at some places
@@ -16,7 +16,7 @@ At P (pair ∷ pairs) zero = P pair
 At P (pair ∷ pairs) (suc k) = At P pairs k
 
 abbrev all : List Pair
-all = Pv1 ∷ (Tv1 ∷ (Th1 ∷ (Ts1 ∷ (Pv2 ∷ (Tv2 ∷ (Th2 ∷ (Ts2 ∷ [])))))))
+all = Pv1 ∷ (Tv1 ∷ (Th1 ∷ (Ts1 ∷ (Pv2 ∷ (Tv2 ∷ (Th2 ∷ (Ts2 ∷ (Tv5 ∷ (Th5 ∷ (Ts5 ∷ []))))))))))
 
 abbrev pub Each : (Pair → Type 0) → List ℕ → Type 0
 Each P [] = Prim.Unit {0}
@@ -31,6 +31,9 @@ by-place P Pv2 h = h
 by-place P Tv2 h = h
 by-place P Th2 h = h
 by-place P Ts2 h = h
+by-place P Tv5 h = h
+by-place P Th5 h = h
+by-place P Ts5 h = h
 
 pub among : (P : Pair → Type 0) (places : List ℕ) (pair : Pair) → OneOf places (tagOf the-type pair) → Each P places → P pair
 among P [] pair h e = absurd h

@@ -5,7 +5,7 @@ use Rattle.r4.proofs.Doubles.{Doubled, lowest-1-double, most-1-double, least-2-
 use Rattle.pairs.specs.Rows.{row}
 use Rattle.pairs.specs.Pairs.{lowerEnd, upperEnd}
 use Rattle.pairs.specs.declared.row.Pair.{Pair}
-use Rattle.pairs.specs.declared.row.Pair.the-variants.{Pv1, Tv1, Th1, Ts1, Pv2, Tv2, Th2, Ts2}
+use Rattle.pairs.specs.declared.row.Pair.the-variants.{Pv1, Tv1, Th1, Ts1, Pv2, Tv2, Th2, Ts2, Tv5, Th5, Ts5}
 use Rattle.pairs.specs.declared.question.Question.{Question}
 
 pub lower-double : (q : Question) → Doubled (lowerEnd q)
@@ -21,6 +21,9 @@ lower-double q = by (q .pair)
     by Tv2 = λ m. tt
     by Th2 = λ m. tt
     by Ts2 = λ m. tt
+    by Tv5 = λ m. tt
+    by Th5 = λ m. tt
+    by Ts5 = λ m. tt
 
 pub upper-double : (q : Question) → Doubled (upperEnd q)
 unfolding rounded fits
@@ -35,3 +38,6 @@ upper-double q = by (q .pair)
     by Tv2 = λ m. tt
     by Th2 = λ m. tt
     by Ts2 = most-2-double (q .fixed)
+    by Tv5 = λ m. tt
+    by Th5 = λ m. tt
+    by Ts5 = λ m. tt

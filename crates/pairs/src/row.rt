@@ -3,6 +3,7 @@ ghost use mathlib.Core.Path.{_≡_};
 ghost use Rattle.pairs.specs.Rows.{row};
 use common::boundaries::Range;
 use common::constant::P_MAX;
+use common::constant::P_MAX5;
 use common::constant::P_MIN2;
 use common::constant::T_MAX2;
 use common::constant::T_MIN;
@@ -17,6 +18,9 @@ use r4::ends::T2pmax_reg2;
 use r4::ends::T2pmin_reg1;
 use r4::ends::p2Tmax_reg1;
 use r4::ends::p2Tmin_reg2;
+use r5::region5_pT::pT2h_reg5;
+use r5::region5_pT::pT2s_reg5;
+use r5::region5_pT::pT2v_reg5;
 use search::bisection::Width;
 use search::method::Method;
 
@@ -24,9 +28,10 @@ use search::method::Method;
 pub enum Region {
     One,
     Two,
+    Five,
 }
 
-// Each is named after its inputs and its region: Pv1 is the Rust's pv2T_reg1, Ts2 its Ts2p_reg2.
+// Each is named after its inputs and its region: Pv1 is the Rust's pv2T_reg1, Ts2 its Ts2p_reg2. Region 5 has no (p,v).
 pub enum Pair {
     Pv1,
     Tv1,
@@ -36,6 +41,9 @@ pub enum Pair {
     Tv2,
     Th2,
     Ts2,
+    Tv5,
+    Th5,
+    Ts5,
 }
 
 impl Pair {
@@ -51,6 +59,9 @@ impl Pair {
             Pair::Tv2 => Region::Two,
             Pair::Th2 => Region::Two,
             Pair::Ts2 => Region::Two,
+            Pair::Tv5 => Region::Five,
+            Pair::Th5 => Region::Five,
+            Pair::Ts5 => Region::Five,
         }
     }
 
@@ -67,6 +78,9 @@ impl Pair {
             Pair::Tv2 => Range::T2,
             Pair::Th2 => Range::T2,
             Pair::Ts2 => Range::T2,
+            Pair::Tv5 => Range::T5,
+            Pair::Th5 => Range::T5,
+            Pair::Ts5 => Range::T5,
         }
     }
 
@@ -83,6 +97,9 @@ impl Pair {
             Pair::Tv2 => true,
             Pair::Th2 => false,
             Pair::Ts2 => false,
+            Pair::Tv5 => true,
+            Pair::Th5 => false,
+            Pair::Ts5 => false,
         }
     }
 
@@ -93,7 +110,9 @@ impl Pair {
             Pair::Pv1 => End::At(T_MIN),
             Pair::Tv1 | Pair::Th1 | Pair::Ts1 => T2pmin_reg1(fixed),
             Pair::Pv2 => p2Tmin_reg2(fixed),
-            Pair::Tv2 | Pair::Th2 | Pair::Ts2 => End::At(P_MIN2),
+            Pair::Tv2 | Pair::Th2 | Pair::Ts2 | Pair::Tv5 | Pair::Th5 | Pair::Ts5 => End::At(
+                P_MIN2,
+            ),
         }
     }
 
@@ -105,6 +124,7 @@ impl Pair {
             Pair::Tv1 | Pair::Th1 | Pair::Ts1 | Pair::Tv2 | Pair::Th2 => End::At(P_MAX),
             Pair::Pv2 => End::At(T_MAX2),
             Pair::Ts2 => T2pmax_reg2(fixed),
+            Pair::Tv5 | Pair::Th5 | Pair::Ts5 => End::At(P_MAX5),
         }
     }
 
@@ -119,6 +139,9 @@ impl Pair {
             Pair::Pv2 | Pair::Tv2 => pT2v_reg2(p, T),
             Pair::Th2 => pT2h_reg2(p, T),
             Pair::Ts2 => pT2s_reg2(p, T),
+            Pair::Tv5 => pT2v_reg5(p, T),
+            Pair::Th5 => pT2h_reg5(p, T),
+            Pair::Ts5 => pT2s_reg5(p, T),
         }
     }
 
@@ -128,8 +151,15 @@ impl Pair {
         match self {
             Pair::Pv1 => Method::ByBisection(Width::Millionth),
             Pair::Tv2 => Method::ByBisection(Width::MillionthOfUpper),
-            Pair::Tv1 | Pair::Th1 | Pair::Ts1 | Pair::Pv2 | Pair::Th2 | Pair::Ts2 =>
-                Method::ByBrent,
+            Pair::Tv1
+            | Pair::Th1
+            | Pair::Ts1
+            | Pair::Pv2
+            | Pair::Th2
+            | Pair::Ts2
+            | Pair::Tv5
+            | Pair::Th5
+            | Pair::Ts5 => Method::ByBrent,
         }
     }
 }

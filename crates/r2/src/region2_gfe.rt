@@ -1,6 +1,7 @@
 // The dimensionless Gibbs free energy of region 2: the ideal-gas part and the residual part, their tables and derivatives.
 ghost use mathlib.Core.Path.{_≡_};
-ghost use Rattle.r2.specs.Region2.{gamma0Pi, gamma0Tau, gamma0TauTau, gammarPi, gammarTau, gammarTauTau, residual, ideal};
+ghost use Rattle.gibbs.specs.Gibbs.{gamma0Tau, gamma0TauTau, gammarPi, gammarTau, gammarTauTau, residual};
+ghost use Rattle.r2.specs.Region2.{equation, ideal};
 ghost use Rattle.polynomial.specs.Kinds.{only-0-j, only-i-j, only-i-ii-ij-jj};
 use float::log::ln;
 use polynomial::ALONE_ONCE;
@@ -182,16 +183,9 @@ pub struct Ideal {
     pub derived: f64,
 }
 
-// The ideal-gas part's first derivative in pi.
-pub fn gamma0_pi_reg2(pi: f64) -> f64
-    ensures { λ r. ⌜ r ≡ gamma0Pi pi ⌝ }
-{
-    1.0 / pi
-}
-
 // The ideal-gas part's first derivative in tau.
 pub fn gamma0_tau_reg2(tau: f64) -> f64
-    ensures { λ r. ⌜ r ≡ gamma0Tau tau ⌝ }
+    ensures { λ r. ⌜ r ≡ gamma0Tau equation tau ⌝ }
 {
     let ys = powers(tau);
     let s = tile(ALONE_ONCE, none(), tau, tau, &ys, &ys, &J0, &J0, &N0);
@@ -200,7 +194,7 @@ pub fn gamma0_tau_reg2(tau: f64) -> f64
 
 // The ideal-gas part's second derivative in tau.
 pub fn gamma0_tautau_reg2(tau: f64) -> f64
-    ensures { λ r. ⌜ r ≡ gamma0TauTau tau ⌝ }
+    ensures { λ r. ⌜ r ≡ gamma0TauTau equation tau ⌝ }
 {
     let ys = powers(tau);
     let s = tile(ALONE_TWICE, none(), tau, tau, &ys, &ys, &J0, &J0, &N0);
@@ -229,7 +223,7 @@ pub fn gamma0_shared_reg2(pi: f64, tau: f64) -> Ideal
 
 // The residual part's first derivative in pi.
 pub fn gammar_pi_reg2(pi: f64, tau: f64) -> f64
-    ensures { λ r. ⌜ r ≡ gammarPi pi tau ⌝ }
+    ensures { λ r. ⌜ r ≡ gammarPi equation pi tau ⌝ }
 {
     let vj = tau - 0.5;
     let xs = powers(pi);
@@ -239,7 +233,7 @@ pub fn gammar_pi_reg2(pi: f64, tau: f64) -> f64
 
 // The residual part's first derivative in tau.
 pub fn gammar_tau_reg2(pi: f64, tau: f64) -> f64
-    ensures { λ r. ⌜ r ≡ gammarTau pi tau ⌝ }
+    ensures { λ r. ⌜ r ≡ gammarTau equation pi tau ⌝ }
 {
     let vj = tau - 0.5;
     let xs = powers(pi);
@@ -249,7 +243,7 @@ pub fn gammar_tau_reg2(pi: f64, tau: f64) -> f64
 
 // The residual part's second derivative in tau.
 pub fn gammar_tautau_reg2(pi: f64, tau: f64) -> f64
-    ensures { λ r. ⌜ r ≡ gammarTauTau pi tau ⌝ }
+    ensures { λ r. ⌜ r ≡ gammarTauTau equation pi tau ⌝ }
 {
     let vj = tau - 0.5;
     let xs = powers(pi);
@@ -259,7 +253,7 @@ pub fn gammar_tautau_reg2(pi: f64, tau: f64) -> f64
 
 // The residual part itself and its derivative in tau, which share their powers.
 pub fn polys_0_j_powi_reg2(pi: f64, tau: f64) -> Sums
-    ensures { λ r. ⌜ r ≡ only-0-j (residual pi tau) ⌝ }
+    ensures { λ r. ⌜ r ≡ only-0-j (residual equation pi tau) ⌝ }
 {
     let vj = tau - 0.5;
     let xs = powers(pi);
@@ -270,7 +264,7 @@ pub fn polys_0_j_powi_reg2(pi: f64, tau: f64) -> Sums
 
 // The residual part's first derivatives in pi and in tau, which share their powers.
 pub fn polys_i_j_powi_reg2(pi: f64, tau: f64) -> Sums
-    ensures { λ r. ⌜ r ≡ only-i-j (residual pi tau) ⌝ }
+    ensures { λ r. ⌜ r ≡ only-i-j (residual equation pi tau) ⌝ }
 {
     let vj = tau - 0.5;
     let xs = powers(pi);
@@ -281,7 +275,7 @@ pub fn polys_i_j_powi_reg2(pi: f64, tau: f64) -> Sums
 
 // The residual part's derivatives in pi, twice in pi, in both and twice in tau, which share their powers.
 pub fn polys_i_ii_ij_jj_powi_reg2(pi: f64, tau: f64) -> Sums
-    ensures { λ r. ⌜ r ≡ only-i-ii-ij-jj (residual pi tau) ⌝ }
+    ensures { λ r. ⌜ r ≡ only-i-ii-ij-jj (residual equation pi tau) ⌝ }
 {
     let vj = tau - 0.5;
     let xs = powers(pi);

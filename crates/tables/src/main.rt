@@ -1,4 +1,4 @@
-// The release's check values, Tables 5, 15, 35 and 36 and B23's check point: each property's value to nine digits, and whether it agrees with the printed one.
+// The release's check values, Tables 5, 15, 35, 36 and 42 and B23's check point: each property's value to nine digits, and whether it agrees with the printed one.
 use common::boundaries::B23_T2p;
 use common::boundaries::B23_p2T;
 use libc::STDOUT_FILENO;
@@ -16,6 +16,12 @@ use r2::region2_pT::pT2v_reg2;
 use r2::region2_pT::pT2w_reg2;
 use r4::region4_sat_pT::T_saturation_formula;
 use r4::region4_sat_pT::p_saturation_formula;
+use r5::region5_pT::pT2cp_reg5;
+use r5::region5_pT::pT2h_reg5;
+use r5::region5_pT::pT2s_reg5;
+use r5::region5_pT::pT2u_reg5;
+use r5::region5_pT::pT2v_reg5;
+use r5::region5_pT::pT2w_reg5;
 
 fn write(text: &[u8]) {
     io::write_all(STDOUT_FILENO, text);
@@ -385,6 +391,150 @@ fn table36() {
     );
 }
 
+fn table42_first_v_h_u() {
+    line(
+        b"Table 42, 0.5 MPa, 1500 K: v",
+        pT2v_reg5(0.5, 1500.0),
+        1.0e8,
+        138455090,
+        b"e1",
+    );
+    line(
+        b"Table 42, 0.5 MPa, 1500 K: h",
+        pT2h_reg5(0.5, 1500.0),
+        1.0e5,
+        521976855,
+        b"e4",
+    );
+    line(
+        b"Table 42, 0.5 MPa, 1500 K: u",
+        pT2u_reg5(0.5, 1500.0),
+        1.0e5,
+        452749310,
+        b"e4",
+    );
+}
+
+fn table42_first_s_cp_w() {
+    line(
+        b"Table 42, 0.5 MPa, 1500 K: s",
+        pT2s_reg5(0.5, 1500.0),
+        1.0e8,
+        965408875,
+        b"e1",
+    );
+    line(
+        b"Table 42, 0.5 MPa, 1500 K: cp",
+        pT2cp_reg5(0.5, 1500.0),
+        1.0e8,
+        261609445,
+        b"e1",
+    );
+    line(
+        b"Table 42, 0.5 MPa, 1500 K: w",
+        pT2w_reg5(0.5, 1500.0),
+        1.0e6,
+        917068690,
+        b"e3",
+    );
+}
+
+fn table42_second_v_h_u() {
+    line(
+        b"Table 42, 30 MPa, 1500 K: v",
+        pT2v_reg5(30.0, 1500.0),
+        1.0e10,
+        230761299,
+        b"e-1",
+    );
+    line(
+        b"Table 42, 30 MPa, 1500 K: h",
+        pT2h_reg5(30.0, 1500.0),
+        1.0e5,
+        516723514,
+        b"e4",
+    );
+    line(
+        b"Table 42, 30 MPa, 1500 K: u",
+        pT2u_reg5(30.0, 1500.0),
+        1.0e5,
+        447495124,
+        b"e4",
+    );
+}
+
+fn table42_second_s_cp_w() {
+    line(
+        b"Table 42, 30 MPa, 1500 K: s",
+        pT2s_reg5(30.0, 1500.0),
+        1.0e8,
+        772970133,
+        b"e1",
+    );
+    line(
+        b"Table 42, 30 MPa, 1500 K: cp",
+        pT2cp_reg5(30.0, 1500.0),
+        1.0e8,
+        272724317,
+        b"e1",
+    );
+    line(
+        b"Table 42, 30 MPa, 1500 K: w",
+        pT2w_reg5(30.0, 1500.0),
+        1.0e6,
+        928548002,
+        b"e3",
+    );
+}
+
+fn table42_third_v_h_u() {
+    line(
+        b"Table 42, 30 MPa, 2000 K: v",
+        pT2v_reg5(30.0, 2000.0),
+        1.0e10,
+        311385219,
+        b"e-1",
+    );
+    line(
+        b"Table 42, 30 MPa, 2000 K: h",
+        pT2h_reg5(30.0, 2000.0),
+        1.0e5,
+        657122604,
+        b"e4",
+    );
+    line(
+        b"Table 42, 30 MPa, 2000 K: u",
+        pT2u_reg5(30.0, 2000.0),
+        1.0e5,
+        563707038,
+        b"e4",
+    );
+}
+
+fn table42_third_s_cp_w() {
+    line(
+        b"Table 42, 30 MPa, 2000 K: s",
+        pT2s_reg5(30.0, 2000.0),
+        1.0e8,
+        853640523,
+        b"e1",
+    );
+    line(
+        b"Table 42, 30 MPa, 2000 K: cp",
+        pT2cp_reg5(30.0, 2000.0),
+        1.0e8,
+        288569882,
+        b"e1",
+    );
+    line(
+        b"Table 42, 30 MPa, 2000 K: w",
+        pT2w_reg5(30.0, 2000.0),
+        1.0e5,
+        106736948,
+        b"e4",
+    );
+}
+
 fn b23() {
     line(
         b"B23, 623.15 K: p",
@@ -417,5 +567,11 @@ fn main() {
     table15_third_s_cp_w();
     table35();
     table36();
+    table42_first_v_h_u();
+    table42_first_s_cp_w();
+    table42_second_v_h_u();
+    table42_second_s_cp_w();
+    table42_third_v_h_u();
+    table42_third_s_cp_w();
     b23();
 }

@@ -30,8 +30,8 @@ use Rattle.r4.specs.Ends.{place}
 use Rattle.pairs.specs.Residual.{rowOf, residual}
 use Rattle.pairs.specs.Pairs.{asks, steps, lowerEnd, upperEnd, start}
 use Rattle.pairs.proofs.Doubles.{lower-double, upper-double}
-use Rattle.pairs.specs.declared.row.Region.the-variants.{One, Two}
-use Rattle.pairs.specs.declared.row.Pair.the-variants.{Pv1, Tv1, Th1, Ts1, Pv2, Tv2, Th2, Ts2}
+use Rattle.pairs.specs.declared.row.Region.the-variants.{One, Two, Five}
+use Rattle.pairs.specs.declared.row.Pair.the-variants.{Pv1, Tv1, Th1, Ts1, Pv2, Tv2, Th2, Ts2, Tv5, Th5, Ts5}
 use Rattle.pairs.specs.declared.question.Question.{Question}
 use Rattle.vessel.specs.Answer.{Reason, none, plain, exactEnd, smallResidual, narrow, Columns, columns, answered, valueOf}
 use Rattle.vessel.specs.Searches.{largestLimit, checks, outcome, mark, asked, search as searchOf, pv2T, Tv2p, Th2p, Ts2p}
@@ -149,17 +149,26 @@ Tv2p-owes-1 t v limit = owes (asks Tv1 t v) limit
 pub Tv2p-owes-2 : (t v : Float) (limit : ℕ) → Owes (asks Tv2 t v) (columns (Tv2p Two t v limit))
 Tv2p-owes-2 t v limit = owes (asks Tv2 t v) limit
 
+pub Tv2p-owes-5 : (t v : Float) (limit : ℕ) → Owes (asks Tv5 t v) (columns (Tv2p Five t v limit))
+Tv2p-owes-5 t v limit = owes (asks Tv5 t v) limit
+
 pub Th2p-owes-1 : (t h : Float) (limit : ℕ) → Owes (asks Th1 t h) (columns (Th2p One t h limit))
 Th2p-owes-1 t h limit = owes (asks Th1 t h) limit
 
 pub Th2p-owes-2 : (t h : Float) (limit : ℕ) → Owes (asks Th2 t h) (columns (Th2p Two t h limit))
 Th2p-owes-2 t h limit = owes (asks Th2 t h) limit
 
+pub Th2p-owes-5 : (t h : Float) (limit : ℕ) → Owes (asks Th5 t h) (columns (Th2p Five t h limit))
+Th2p-owes-5 t h limit = owes (asks Th5 t h) limit
+
 pub Ts2p-owes-1 : (t s : Float) (limit : ℕ) → Owes (asks Ts1 t s) (columns (Ts2p One t s limit))
 Ts2p-owes-1 t s limit = owes (asks Ts1 t s) limit
 
 pub Ts2p-owes-2 : (t s : Float) (limit : ℕ) → Owes (asks Ts2 t s) (columns (Ts2p Two t s limit))
 Ts2p-owes-2 t s limit = owes (asks Ts2 t s) limit
+
+pub Ts2p-owes-5 : (t s : Float) (limit : ℕ) → Owes (asks Ts5 t s) (columns (Ts2p Five t s limit))
+Ts2p-owes-5 t s limit = owes (asks Ts5 t s) limit
 
 -- ---- the narrow answers of bisection, written out
 module _ (q : Question) (rule : Width) (same : rowOf q .method ≡ ByBisection rule) (limit : ℕ) where

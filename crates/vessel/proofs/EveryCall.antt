@@ -7,7 +7,7 @@ use Rattle.common.specs.declared.boundaries.Boundary.the-variants.{At, Refused 
 use Rattle.search.specs.declared.bracket.Outcome.{Outcome}
 use Rattle.search.specs.declared.bracket.Outcome.the-variants.{ExactEnd, SmallResidual, Narrow, Refused}
 use Rattle.search.proofs.Searches.{decides}
-use Rattle.pairs.specs.declared.row.Region.the-variants.{One, Two}
+use Rattle.pairs.specs.declared.row.Region.the-variants.{One, Two, Five}
 use Rattle.pairs.specs.declared.question.Question.{Question}
 use Rattle.vessel.specs.Answer.{line, answered, columns, valueOf}
 use Rattle.vessel.specs.Calls as calls
@@ -48,10 +48,13 @@ says (pv2T One' p v limit) = of-search _ limit
 says (pv2T Two' p v limit) = of-search _ limit
 says (Tv2p One T v limit) = of-search _ limit
 says (Tv2p Two T v limit) = of-search _ limit
+says (Tv2p Five T v limit) = of-search _ limit
 says (Th2p One T h limit) = of-search _ limit
 says (Th2p Two T h limit) = of-search _ limit
+says (Th2p Five T h limit) = of-search _ limit
 says (Ts2p One T s limit) = of-search _ limit
 says (Ts2p Two T s limit) = of-search _ limit
+says (Ts2p Five T s limit) = of-search _ limit
 
 -- ---- and without a search the residuals are 0 and 0
 line-nought : (a : Asked) (boundary : Boundary) → BothNought (columns (line a boundary))

@@ -25,8 +25,8 @@ use Rattle.r4.specs.Ends.{place}
 use Rattle.pairs.specs.Residual.{rowOf, residual}
 use Rattle.pairs.specs.Pairs.{asks, steps, lowerEnd, upperEnd}
 use Rattle.pairs.specs.declared.row.Region.{Region}
-use Rattle.pairs.specs.declared.row.Region.the-variants.{One, Two}
-use Rattle.pairs.specs.declared.row.Pair.the-variants.{Pv1, Tv1, Th1, Ts1, Pv2, Tv2, Th2, Ts2}
+use Rattle.pairs.specs.declared.row.Region.the-variants.{One, Two, Five}
+use Rattle.pairs.specs.declared.row.Pair.the-variants.{Pv1, Tv1, Th1, Ts1, Pv2, Tv2, Th2, Ts2, Tv5, Th5, Ts5}
 use Rattle.pairs.specs.declared.question.Question.{Question}
 use Rattle.vessel.specs.Answer.{columns, answered, valueOf}
 use Rattle.vessel.specs.Searches.{largestLimit, checks, outcome, mark, asked, search as searchOf, pv2T, Tv2p, Th2p, Ts2p}
@@ -139,14 +139,17 @@ pv2T-patient Two' p v = patient (asks Pv2 p v)
 pub Tv2p-patient : (region : Region) (t v : Float) → Patient (Tv2p region t v)
 Tv2p-patient One t v = patient (asks Tv1 t v)
 Tv2p-patient Two t v = patient (asks Tv2 t v)
+Tv2p-patient Five t v = patient (asks Tv5 t v)
 
 pub Th2p-patient : (region : Region) (t h : Float) → Patient (Th2p region t h)
 Th2p-patient One t h = patient (asks Th1 t h)
 Th2p-patient Two t h = patient (asks Th2 t h)
+Th2p-patient Five t h = patient (asks Th5 t h)
 
 pub Ts2p-patient : (region : Region) (t s : Float) → Patient (Ts2p region t s)
 Ts2p-patient One t s = patient (asks Ts1 t s)
 Ts2p-patient Two t s = patient (asks Ts2 t s)
+Ts2p-patient Five t s = patient (asks Ts5 t s)
 
 pub pv2T-counts-1 : (p v : Float) → Counts 0 (pv2T One' p v)
 pv2T-counts-1 p v = counts (asks Pv1 p v)
@@ -160,14 +163,23 @@ Tv2p-counts-1 t v = counts (asks Tv1 t v)
 pub Tv2p-counts-2 : (t v : Float) → Counts 0 (Tv2p Two t v)
 Tv2p-counts-2 t v = counts (asks Tv2 t v)
 
+pub Tv2p-counts-5 : (t v : Float) → Counts 1 (Tv2p Five t v)
+Tv2p-counts-5 t v = counts (asks Tv5 t v)
+
 pub Th2p-counts-1 : (t h : Float) → Counts 1 (Th2p One t h)
 Th2p-counts-1 t h = counts (asks Th1 t h)
 
 pub Th2p-counts-2 : (t h : Float) → Counts 1 (Th2p Two t h)
 Th2p-counts-2 t h = counts (asks Th2 t h)
 
+pub Th2p-counts-5 : (t h : Float) → Counts 1 (Th2p Five t h)
+Th2p-counts-5 t h = counts (asks Th5 t h)
+
 pub Ts2p-counts-1 : (t s : Float) → Counts 1 (Ts2p One t s)
 Ts2p-counts-1 t s = counts (asks Ts1 t s)
 
 pub Ts2p-counts-2 : (t s : Float) → Counts 1 (Ts2p Two t s)
 Ts2p-counts-2 t s = counts (asks Ts2 t s)
+
+pub Ts2p-counts-5 : (t s : Float) → Counts 1 (Ts2p Five t s)
+Ts2p-counts-5 t s = counts (asks Ts5 t s)

@@ -3,9 +3,9 @@
 use Prim.Native.Nat.{ℕ}
 use lib.Ieee.{Float}
 use Rattle.float.specs.Sign.{nought}
-use Rattle.pairs.specs.declared.row.Region.the-variants.{One, Two}
+use Rattle.pairs.specs.declared.row.Region.the-variants.{One, Two, Five}
 use Rattle.pairs.specs.declared.row.Pair.{Pair}
-use Rattle.pairs.specs.declared.row.Pair.the-variants.{Pv1, Tv1, Th1, Ts1, Pv2, Tv2, Th2, Ts2}
+use Rattle.pairs.specs.declared.row.Pair.the-variants.{Pv1, Tv1, Th1, Ts1, Pv2, Tv2, Th2, Ts2, Tv5, Th5, Ts5}
 use Rattle.vessel.specs.declared.property.Property.{Property}
 use Rattle.vessel.specs.declared.property.Property.the-variants.{Volume, InternalEnergy, Entropy, Enthalpy, Cp, Cv, SpeedOfSound}
 use Rattle.vessel.specs.declared.asked.Kind.{Kind}
@@ -36,11 +36,15 @@ kindOf Pv2 = Pv
 kindOf Tv2 = Tv
 kindOf Th2 = Th
 kindOf Ts2 = Ts
+kindOf Tv5 = Tv
+kindOf Th5 = Th
+kindOf Ts5 = Ts
 
 -- ---- the numbers
 abbrev pub regionNumber : NamedRegion → ℕ
 regionNumber (InRegion One) = 1
 regionNumber (InRegion Two) = 2
+regionNumber (InRegion Five) = 5
 regionNumber NoRegion = 0
 
 abbrev pub kindNumber : Kind → ℕ

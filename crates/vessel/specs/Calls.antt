@@ -9,6 +9,7 @@ use Rattle.common.specs.declared.boundaries.Range.{Range}
 use Rattle.common.specs.declared.boundaries.Range.the-variants.{T23, P23}
 use Rattle.r1.specs.Region1 as region1
 use Rattle.r2.specs.Region2 as region2
+use Rattle.r5.specs.Region5 as region5
 use Rattle.r4.specs.Saturation.{saturationPressureAt, saturationTemperatureAt}
 use Rattle.search.specs.Decision.{Row, _⇒_, decided}
 use Rattle.vessel.specs.Asked.{atState, onLine}
@@ -21,7 +22,7 @@ use Rattle.vessel.specs.declared.asked.NamedProperty.the-variants.{Names
 use Rattle.vessel.specs.declared.answer.Answer.{Answer}
 use Rattle.vessel.specs.declared.answer.Answer.the-variants.{Value}
 use Rattle.pairs.specs.declared.row.Region.{Region}
-use Rattle.pairs.specs.declared.row.Region.the-variants.{One, Two}
+use Rattle.pairs.specs.declared.row.Region.the-variants.{One, Two, Five}
 use Rattle.vessel.specs.declared.property.Property.{Property}
 use Rattle.vessel.specs.declared.property.Property.the-variants.{Volume, InternalEnergy, Entropy, Enthalpy, Cp, Cv, SpeedOfSound}
 
@@ -41,6 +42,13 @@ formula Two Enthalpy p T = region2.pT2h p T
 formula Two Cp p T = region2.pT2cp p T
 formula Two Cv p T = region2.pT2cv p T
 formula Two SpeedOfSound p T = region2.pT2w p T
+formula Five Volume p T = region5.pT2v p T
+formula Five InternalEnergy p T = region5.pT2u p T
+formula Five Entropy p T = region5.pT2s p T
+formula Five Enthalpy p T = region5.pT2h p T
+formula Five Cp p T = region5.pT2cp p T
+formula Five Cv p T = region5.pT2cv p T
+formula Five SpeedOfSound p T = region5.pT2w p T
 
 abbrev pub asksFor : Region → Property → Float → Float → Asked
 asksFor region q p T = atState (InRegion region) (OfProperty q) p T

@@ -1,4 +1,4 @@
--- Document 01's readings at the edges that are marked *, as one table. proofs/Readings.antt is the one theorem that covers it.
+-- Document 01's readings at the edges that are marked *, and under the number 0 those of region 5 (document 02, §2), as one table. proofs/Readings.antt is the one theorem that covers it.
 use Prim.Native.Nat.{ℕ}
 use mathlib.Core.Path.{_≡_}
 use mathlib.Core.Bool.{Bool, true}
@@ -10,13 +10,13 @@ use Rattle.float.specs.Decimal.{+_, −_, number, rounded}
 use Rattle.float.specs.Power.{wholePower}
 use Rattle.float.specs.Root.{squareRoot, fourthRoot}
 use Rattle.float.specs.Sign.{nought, sameSign}
-use Rattle.common.specs.Constant.{T-623}
+use Rattle.common.specs.Constant.{T-623, T-1073, T-2273, p-50}
 use Rattle.search.specs.Bisection.{step}
 use Rattle.search.specs.Brent.{plain}
 use Rattle.vessel.specs.Range.{refusal}
 use Rattle.vessel.specs.Calls.{property}
 use Rattle.vessel.specs.Table.{numberOf}
-use Rattle.pairs.specs.declared.row.Region.the-variants.{One, Two}
+use Rattle.pairs.specs.declared.row.Region.the-variants.{One, Two, Five}
 use Rattle.vessel.specs.declared.property.Property.the-variants.{Volume}
 
 -- the reading's number, what is found, and what document 01 says
@@ -48,6 +48,16 @@ tiny = rounded (number 1 (− 200))
 abbrev pub above-623 : Float
 above-623 = ofBits binary64 0x4083_7933_3333_3334
 
+-- the double below 1073.15, that above 2273.15, and that above 50
+abbrev pub below-1073 : Float
+below-1073 = ofBits binary64 0x4090_C499_9999_9999
+
+abbrev pub above-2273 : Float
+above-2273 = ofBits binary64 0x40A1_C24C_CCCC_CCCE
+
+abbrev pub above-50 : Float
+above-50 = ofBits binary64 0x4049_0000_0000_0001
+
 unfoldable pub table : List Reading
 table =
     double 1 (wholePower (plain 2) (− 3)) (rounded (number 125 (− 3)))
@@ -65,4 +75,10 @@ table =
     ∷ given 11 (numberOf (property Two Volume (plain 0) nan)) 1
     ∷ given 12 (refusal One (plain 100) T-623) 0
     ∷ given 12 (numberOf (property One Volume (plain 100) above-623)) 2
+    ∷ given 0 (refusal Two p-50 T-1073) 0
+    ∷ given 0 (refusal Five p-50 T-1073) 0
+    ∷ given 0 (numberOf (property Five Volume p-50 below-1073)) 2
+    ∷ given 0 (refusal Five p-50 T-2273) 0
+    ∷ given 0 (numberOf (property Five Volume p-50 above-2273)) 2
+    ∷ given 0 (numberOf (property Five Volume above-50 T-1073)) 3
     ∷ []

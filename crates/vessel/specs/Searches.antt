@@ -13,8 +13,8 @@ use Rattle.search.specs.declared.bracket.Outcome.{Outcome}
 use Rattle.pairs.specs.Residual.{rowOf, stateOf}
 use Rattle.pairs.specs.Pairs.{asks, steps, start, beforeSteps}
 use Rattle.pairs.specs.declared.row.Region.{Region}
-use Rattle.pairs.specs.declared.row.Region.the-variants.{One, Two}
-use Rattle.pairs.specs.declared.row.Pair.the-variants.{Pv1, Tv1, Th1, Ts1, Pv2, Tv2, Th2, Ts2}
+use Rattle.pairs.specs.declared.row.Region.the-variants.{One, Two, Five}
+use Rattle.pairs.specs.declared.row.Pair.the-variants.{Pv1, Tv1, Th1, Ts1, Pv2, Tv2, Th2, Ts2, Tv5, Th5, Ts5}
 use Rattle.pairs.specs.declared.question.Question.{Question}
 use Rattle.vessel.specs.Asked.{kindOf, ofPair}
 use Rattle.vessel.specs.Answer.{answered, valueOf}
@@ -64,11 +64,14 @@ pv2T Two' p v limit = search (asks Pv2 p v) limit
 abbrev pub Tv2p : Region → Float → Float → ℕ → Answer
 Tv2p One T v limit = search (asks Tv1 T v) limit
 Tv2p Two T v limit = search (asks Tv2 T v) limit
+Tv2p Five T v limit = search (asks Tv5 T v) limit
 
 abbrev pub Th2p : Region → Float → Float → ℕ → Answer
 Th2p One T h limit = search (asks Th1 T h) limit
 Th2p Two T h limit = search (asks Th2 T h) limit
+Th2p Five T h limit = search (asks Th5 T h) limit
 
 abbrev pub Ts2p : Region → Float → Float → ℕ → Answer
 Ts2p One T s limit = search (asks Ts1 T s) limit
 Ts2p Two T s limit = search (asks Ts2 T s) limit
+Ts2p Five T s limit = search (asks Ts5 T s) limit

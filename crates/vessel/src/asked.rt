@@ -47,6 +47,7 @@ impl NamedRegion {
             NamedRegion::Names(region) => match region {
                 Region::One => 1,
                 Region::Two => 2,
+                Region::Five => 5,
             },
             NamedRegion::Nothing => 0,
         }
@@ -95,6 +96,9 @@ pub fn kind_of(pair: Pair) -> Kind
         Pair::Tv2 => Kind::Tv,
         Pair::Th2 => Kind::Th,
         Pair::Ts2 => Kind::Ts,
+        Pair::Tv5 => Kind::Tv,
+        Pair::Th5 => Kind::Th,
+        Pair::Ts5 => Kind::Ts,
     }
 }
 

@@ -123,6 +123,7 @@ pub fn Tv2p(region: Region, T: f64, v: f64, limit: u32) -> Answer
     match region {
         Region::One => search(Pair::Tv1, T, v, limit),
         Region::Two => search(Pair::Tv2, T, v, limit),
+        Region::Five => search(Pair::Tv5, T, v, limit),
     }
 }
 
@@ -133,6 +134,7 @@ pub fn Th2p(region: Region, T: f64, h: f64, limit: u32) -> Answer
     match region {
         Region::One => search(Pair::Th1, T, h, limit),
         Region::Two => search(Pair::Th2, T, h, limit),
+        Region::Five => search(Pair::Th5, T, h, limit),
     }
 }
 
@@ -143,5 +145,6 @@ pub fn Ts2p(region: Region, T: f64, s: f64, limit: u32) -> Answer
     match region {
         Region::One => search(Pair::Ts1, T, s, limit),
         Region::Two => search(Pair::Ts2, T, s, limit),
+        Region::Five => search(Pair::Ts5, T, s, limit),
     }
 }

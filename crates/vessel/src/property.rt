@@ -24,6 +24,13 @@ use r2::region2_pT::pT2s_reg2;
 use r2::region2_pT::pT2u_reg2;
 use r2::region2_pT::pT2v_reg2;
 use r2::region2_pT::pT2w_reg2;
+use r5::region5_pT::pT2cp_reg5;
+use r5::region5_pT::pT2cv_reg5;
+use r5::region5_pT::pT2h_reg5;
+use r5::region5_pT::pT2s_reg5;
+use r5::region5_pT::pT2u_reg5;
+use r5::region5_pT::pT2v_reg5;
+use r5::region5_pT::pT2w_reg5;
 
 // v in m^3/kg, u and h in kJ/kg, s, cp and cv in kJ/(kg K), w in m/s.
 pub enum Property {
@@ -81,6 +88,20 @@ fn formula_2(property: Property, p: f64, T: f64) -> f64
     }
 }
 
+fn formula_5(property: Property, p: f64, T: f64) -> f64
+    ensures { λ r. ⌜ r ≡ formulaOf Region.Five property p T ⌝ }
+{
+    match property {
+        Property::Volume => pT2v_reg5(p, T),
+        Property::InternalEnergy => pT2u_reg5(p, T),
+        Property::Entropy => pT2s_reg5(p, T),
+        Property::Enthalpy => pT2h_reg5(p, T),
+        Property::Cp => pT2cp_reg5(p, T),
+        Property::Cv => pT2cv_reg5(p, T),
+        Property::SpeedOfSound => pT2w_reg5(p, T),
+    }
+}
+
 // The region's formula, with no check of the range.
 fn formula(region: Region, property: Property, p: f64, T: f64) -> f64
     ensures { λ r. ⌜ r ≡ formulaOf region property p T ⌝ }
@@ -88,6 +109,7 @@ fn formula(region: Region, property: Property, p: f64, T: f64) -> f64
     match region {
         Region::One => formula_1(property, p, T),
         Region::Two => formula_2(property, p, T),
+        Region::Five => formula_5(property, p, T),
     }
 }
 

@@ -48,6 +48,18 @@ fn limits_2(p: f64, T: f64) -> u32
     0
 }
 
+fn limits_5(p: f64, T: f64) -> u32
+    ensures { λ r. ⌜ r ≡ decided (limits Region.Five p T) 0 ⌝ }
+{
+    if !in_range(Range::T5, T) {
+        return 2;
+    }
+    if !in_range(Range::P5, p) {
+        return 3;
+    }
+    0
+}
+
 // The number by which the rule refuses (p,T), or 0.
 pub fn refusal(region: Region, p: f64, T: f64) -> u32
     ensures { λ r. ⌜ r ≡ refusalOf region p T ⌝ }
@@ -61,6 +73,7 @@ pub fn refusal(region: Region, p: f64, T: f64) -> u32
     match region {
         Region::One => limits_1(p, T),
         Region::Two => limits_2(p, T),
+        Region::Five => limits_5(p, T),
     }
 }
 

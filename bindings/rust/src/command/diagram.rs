@@ -3,7 +3,8 @@ use crate::grid::{rectangles, Class, Rectangle};
 use climboat::{b23_pressure, saturation_pressure, Reading, Refusal};
 use std::fmt::Write;
 
-// T is linear, one kelvin to a unit; p is logarithmic, fifty units to a decade. A cell of the grid is one unit wide and high.
+// T and p are logarithmic: on a linear axis region 5, 1,200 K wide, would take more room than the others together. The width is one decade of T, from COLDEST on; p has fifty units to a decade.
+// A cell of the grid is one unit wide and high.
 const LEFT: f64 = 84.0;
 const TOP: f64 = 74.0;
 const WIDTH: usize = 850;
@@ -12,6 +13,10 @@ const COLDEST: f64 = 250.0;
 const HIGHEST: f64 = 200.0;
 const DECADE: f64 = 50.0;
 
+/// Where the plot ends.
+const RIGHT: f64 = LEFT + WIDTH as f64;
+const BOTTOM: f64 = TOP + HEIGHT as f64;
+
 const MIDDLE: &str = " text-anchor=\"middle\"";
 const END: &str = " text-anchor=\"end\"";
 
@@ -19,50 +24,91 @@ const CRITICAL_T: f64 = 647.096;
 const CRITICAL_P: f64 = 22.064;
 
 fn x_of(t: f64) -> f64 {
-    LEFT + t - COLDEST
+    LEFT + WIDTH as f64 * (t / COLDEST).log10()
 }
 
 fn y_of(p: f64) -> f64 {
     TOP + DECADE * (HIGHEST.log10() - p.log10())
 }
 
+fn temperature_of(column: usize) -> f64 {
+    COLDEST * 10_f64.powf((column as f64 + 0.5) / WIDTH as f64)
+}
+
 fn pressure_of(row: usize) -> f64 {
     10_f64.powf(HIGHEST.log10() - (row as f64 + 0.5) / DECADE)
 }
 
-fn colour(class: Class) -> &'static str {
+fn colour(class: &Class) -> &'static str {
     match class {
-        Class::One => "#9cc9ea",
-        Class::Two => "#fbdca8",
-        Class::Both => "#a9d8a4",
-        Class::Refused(2, 2) => "#dcdcdc",
-        Class::Refused(3, 3) => "#efc4c0",
-        Class::Refused(2, 3) => "#d2c3e3",
-        Class::Refused(_, _) => "#ffffff",
+        Class::Answered(regions) => match regions[..] {
+            [1] => "#9cc9ea",
+            [2] => "#fbdca8",
+            [5] => "#f4b183",
+            _ => "#a9d8a4",
+        },
+        Class::Refused(numbers) => {
+            let regions = |number| numbers.get(number).map_or(&[][..], Vec::as_slice);
+            match (regions(&2), regions(&3)) {
+                ([1, 2, 5], []) => "#dcdcdc",
+                ([5], [1, 2]) => "#efc4c0",
+                ([1, 5], [2]) => "#d2c3e3",
+                ([1, 2], [5]) => "#c5dcd2",
+                _ => "#ffffff",
+            }
+        }
     }
 }
 
-fn named(class: Class) -> String {
-    match class {
-        Class::One => "region 1".to_string(),
-        Class::Two => "region 2".to_string(),
-        Class::Both => "regions 1 and 2".to_string(),
-        Class::Refused(one, two) if one == two => format!("refused by {one}"),
-        Class::Refused(one, two) => format!("refused by {one} and by {two}"),
+/// Some regions in words, with what they do: `region 1 answers`, `regions 1 and 2 answer`.
+fn doing(regions: &[u32], verb: &str) -> String {
+    let ending = if regions.len() == 1 { "s" } else { "" };
+    format!("{} {verb}{ending}", words(regions))
+}
+
+/// `region 1`, `regions 1 and 2`, `regions 1, 2 and 5`.
+fn words(regions: &[u32]) -> String {
+    let numbers: Vec<String> = regions.iter().map(u32::to_string).collect();
+    match numbers.split_last() {
+        Some((last, [])) => format!("region {last}"),
+        Some((last, before)) => format!("regions {} and {last}", before.join(", ")),
+        None => "no region".to_string(),
     }
 }
 
-fn meaning(class: Class) -> String {
+fn named(class: &Class) -> String {
     match class {
-        Class::One => "region 1 answers".to_string(),
-        Class::Two => "region 2 answers".to_string(),
-        Class::Both => "both regions answer".to_string(),
-        Class::Refused(one, two) if one == two => format!("both regions refuse by {one}"),
-        Class::Refused(one, two) => format!("region 1 refuses by {one}, region 2 by {two}"),
+        Class::Answered(regions) => words(regions),
+        Class::Refused(numbers) => {
+            let numbers: Vec<String> = numbers
+                .keys()
+                .map(|number| format!("by {number}"))
+                .collect();
+            format!("refused {}", numbers.join(" and "))
+        }
     }
 }
 
-const TITLE: &str = "What regions 1 and 2 answer for p and T";
+fn meaning(class: &Class) -> String {
+    match class {
+        Class::Answered(regions) => doing(regions, "answer"),
+        Class::Refused(numbers) => {
+            let parts = numbers
+                .iter()
+                .enumerate()
+                .map(|(place, (number, regions))| {
+                    let who = match place {
+                        0 => doing(regions, "refuse"),
+                        _ => words(regions),
+                    };
+                    format!("{who} by {number}")
+                });
+            parts.collect::<Vec<_>>().join(", ")
+        }
+    }
+}
+
+const TITLE: &str = "What regions 1, 2 and 5 answer for p and T";
 const STYLE: &str = "<style>
 text{font-family:DejaVu Sans,Verdana,Arial,sans-serif;font-size:13px;fill:#1c1c1c}
 .small{font-size:11px}
@@ -76,13 +122,11 @@ text{font-family:DejaVu Sans,Verdana,Arial,sans-serif;font-size:13px;fill:#1c1c1
 
 /// The whole picture.
 pub fn svg() -> String {
-    let temperatures: Vec<f64> = (0..WIDTH)
-        .map(|column| COLDEST + column as f64 + 0.5)
-        .collect();
+    let temperatures: Vec<f64> = (0..WIDTH).map(temperature_of).collect();
     let pressures: Vec<f64> = (0..HEIGHT).map(pressure_of).collect();
     let cells = rectangles(&temperatures, &pressures);
     let mut picture = Picture::new();
-    for (&class, cells) in &cells {
+    for (class, cells) in &cells {
         picture.cells(class, cells);
     }
     picture.temperatures();
@@ -92,8 +136,7 @@ pub fn svg() -> String {
     picture.curve("b23", 623.15, 863.15, b23_pressure);
     picture.critical_point();
     picture.labels();
-    let classes: Vec<Class> = cells.keys().copied().collect();
-    picture.legend(&classes);
+    picture.legend(cells.keys());
     picture.end()
 }
 
@@ -102,10 +145,10 @@ struct Picture(String);
 impl Picture {
     fn new() -> Picture {
         let mut picture = Picture(String::new());
-        picture.put(r#"<svg xmlns="http://www.w3.org/2000/svg" viewBox="0 0 1020 820" width="1020" height="820" role="img">"#);
+        picture.put(r#"<svg xmlns="http://www.w3.org/2000/svg" viewBox="0 0 1020 870" width="1020" height="870" role="img">"#);
         picture.put(&format!("<title>{TITLE}</title>"));
         picture.put(STYLE);
-        picture.put("<rect width=\"1020\" height=\"820\" rx=\"8\" fill=\"#fafafa\"/>");
+        picture.put("<rect width=\"1020\" height=\"870\" rx=\"8\" fill=\"#fafafa\"/>");
         picture
     }
 
@@ -132,7 +175,7 @@ impl Picture {
         ));
     }
 
-    fn cells(&mut self, class: Class, cells: &[Rectangle]) {
+    fn cells(&mut self, class: &Class, cells: &[Rectangle]) {
         let mut path = String::new();
         for cell in cells {
             let (x, y) = (LEFT as usize + cell.x, TOP as usize + cell.y);
@@ -145,50 +188,44 @@ impl Picture {
     }
 
     fn temperatures(&mut self) {
-        let (top, bottom) = (TOP, TOP + HEIGHT as f64);
-        for t in (300..=1100).step_by(100) {
-            let x = x_of(t as f64);
-            self.line("grid", (x, top), (x, bottom));
-            self.text(x, bottom + 19.0, MIDDLE, &t.to_string());
+        for t in [300, 400, 500, 600, 700, 800, 900, 1000, 1200, 1500, 2000] {
+            let x = x_of(f64::from(t));
+            self.line("grid", (x, TOP), (x, BOTTOM));
+            self.text(x, BOTTOM + 19.0, MIDDLE, &t.to_string());
         }
-        self.text(
-            LEFT + WIDTH as f64 / 2.0,
-            bottom + 42.0,
-            MIDDLE,
-            "temperature T in K",
-        );
+        let middle = (LEFT + RIGHT) / 2.0;
+        self.text(middle, BOTTOM + 42.0, MIDDLE, "temperature T in K");
     }
 
     fn pressures(&mut self) {
-        let (left, right) = (LEFT, LEFT + WIDTH as f64);
         for exponent in -9..=2 {
             let y = y_of(10_f64.powi(exponent));
-            self.line("grid", (left, y), (right, y));
+            self.line("grid", (LEFT, y), (RIGHT, y));
             let sign = if exponent < 0 { "\u{2212}" } else { "" };
             let power = format!(
                 "10<tspan dy=\"-5\" style=\"font-size:10px\">{sign}{}</tspan>",
                 exponent.abs()
             );
-            self.text(left - 8.0, y + 5.0, END, &power);
+            self.text(LEFT - 8.0, y + 5.0, END, &power);
         }
-        self.upwards(24.0, TOP + HEIGHT as f64 / 2.0, "pressure p in MPa");
+        self.upwards(24.0, (TOP + BOTTOM) / 2.0, "pressure p in MPa");
     }
 
-    /// Where the ranges end. Their numbers stand outside the plot, where no label can meet them.
+    /// Where the ranges end. Their numbers stand where no label can meet them: outside the plot, or behind the end of their line.
     fn limits(&mut self) {
-        for (t, name) in [
-            (273.15, "273.15 K"),
-            (623.15, "623.15 K"),
-            (863.15, "863.15 K"),
-            (1073.15, "1073.15 K"),
-        ] {
-            let x = x_of(t);
-            self.line("limit", (x, TOP), (x, TOP + HEIGHT as f64));
-            self.text(x, TOP - 8.0, &format!(" class=\"small\"{MIDDLE}"), name);
+        for t in [273.15, 623.15, 863.15, 1073.15, 2273.15] {
+            let (x, name) = (x_of(t), format!("{t} K"));
+            self.line("limit", (x, TOP), (x, BOTTOM));
+            self.text(x, TOP - 8.0, &format!(" class=\"small\"{MIDDLE}"), &name);
         }
-        for (p, name) in [(100.0, "100 MPa"), (1.0e-8, "1.0e-8 MPa")] {
-            let (y, right) = (y_of(p), LEFT + WIDTH as f64);
-            self.line("limit", (LEFT, y), (right, y));
+        let warm = x_of(1073.15);
+        for (p, name, left, right) in [
+            (100.0, "100 MPa", LEFT, warm),
+            (50.0, "50 MPa", warm, RIGHT),
+            (1.0e-8, "1.0e-8 MPa", LEFT, RIGHT),
+        ] {
+            let y = y_of(p);
+            self.line("limit", (left, y), (right, y));
             self.text(right + 7.0, y + 4.0, " class=\"small\"", name);
         }
     }
@@ -219,17 +256,16 @@ impl Picture {
 
     fn critical_point(&mut self) {
         let (x, y) = (x_of(CRITICAL_T), y_of(CRITICAL_P));
-        self.line("leader", (x, y), (x + 24.0, y + 58.0));
+        self.line("leader", (x, y), (x + 20.0, y + 56.0));
         self.put(&format!(
             "<circle cx=\"{x:.1}\" cy=\"{y:.1}\" r=\"4.5\" fill=\"#1c1c1c\"/>"
         ));
-        self.text(x + 30.0, y + 70.0, "", "critical point");
-        self.text(
-            x + 30.0,
-            y + 86.0,
-            " class=\"small\"",
-            &format!("{CRITICAL_T} K, {CRITICAL_P} MPa"),
-        );
+        self.text(x + 8.0, y + 70.0, "", "critical point");
+        let coordinates = [format!("{CRITICAL_T} K"), format!("{CRITICAL_P} MPa")];
+        for (place, coordinate) in coordinates.iter().enumerate() {
+            let below = y + 86.0 + 14.0 * place as f64;
+            self.text(x + 8.0, below, " class=\"small\"", coordinate);
+        }
     }
 
     /// What a point is said to be is what the library says of it; only the places are chosen.
@@ -237,24 +273,28 @@ impl Picture {
         let name = format!(" class=\"name\"{MIDDLE}");
         let small = format!(" class=\"small\"{MIDDLE}");
         self.text(LEFT, 32.0, " class=\"name\"", TITLE);
-        for (p, t, what) in [(9.0, 430.0, "water"), (3.0e-4, 720.0, "steam")] {
-            self.text(x_of(t), y_of(p), &name, &named(Class::of(p, t)));
+        for (p, t, what) in [
+            (9.0, 390.0, "water"),
+            (3.0e-4, 490.0, "steam"),
+            (3.0e-4, 1560.0, "steam from 1073.15 K on"),
+        ] {
+            self.text(x_of(t), y_of(p), &name, &named(&Class::of(p, t)));
             self.text(x_of(t), y_of(p) + 18.0, MIDDLE, what);
         }
-        for (p, t) in [(2.6e-9, 448.0), (2.6e-9, 743.0)] {
-            self.text(x_of(t), y_of(p), MIDDLE, &named(Class::of(p, t)));
+        for (p, t) in [(2.6e-9, 412.0), (2.6e-9, 817.0), (2.6e-9, 1560.0)] {
+            self.text(x_of(t), y_of(p), MIDDLE, &named(&Class::of(p, t)));
         }
-        for (p, t) in [(1.0e-4, 261.5), (1.0e-4, 1086.5)] {
-            self.upwards(x_of(t) + 4.5, y_of(p), &named(Class::of(p, t)));
+        for (p, t) in [(1.0e-4, 261.5), (1.0e-4, 2384.0)] {
+            self.upwards(x_of(t) + 4.5, y_of(p), &named(&Class::of(p, t)));
         }
-        self.text(x_of(515.0), y_of(0.45), "", "saturation line");
+        self.text(x_of(470.0), y_of(0.45), "", "saturation line");
         self.text(x_of(795.0), y_of(24.0), "", "B23");
-        self.text(x_of(655.0), y_of(62.0), &small, "region 3");
+        self.text(x_of(680.0), y_of(62.0), &small, "region 3");
     }
 
-    fn legend(&mut self, classes: &[Class]) {
-        let (left, right, top) = (LEFT, LEFT + 400.0, TOP + HEIGHT as f64 + 62.0);
-        for (place, &class) in classes.iter().enumerate() {
+    fn legend<'a>(&mut self, classes: impl Iterator<Item = &'a Class>) {
+        let (left, right, top) = (LEFT, LEFT + 400.0, BOTTOM + 62.0);
+        for (place, class) in classes.enumerate() {
             let y = top + 22.0 * place as f64;
             self.put(&format!("<rect x=\"{left:.1}\" y=\"{y:.1}\" width=\"26\" height=\"15\" fill=\"{}\" stroke=\"#1c1c1c\" stroke-opacity=\".4\"/>", colour(class)));
             self.text(left + 36.0, y + 12.0, "", &meaning(class));
@@ -269,12 +309,14 @@ impl Picture {
             self.line(kind, (right, y + 8.0), (right + 26.0, y + 8.0));
             self.text(right + 36.0, y + 12.0, "", meaning);
         }
-        self.text(
-            right,
-            top + 22.0 * lines.len() as f64 + 12.0,
-            "",
+        let notes = [
             "2: T out of range; 3: p out of range. Region 3 is left out.",
-        );
+            "On the saturation line and at 1073.15 K the named region answers.",
+        ];
+        for (place, note) in notes.into_iter().enumerate() {
+            let y = top + 22.0 * (lines.len() + place) as f64 + 12.0;
+            self.text(right, y, "", note);
+        }
     }
 
     fn end(mut self) -> String {

@@ -1,24 +1,32 @@
-//! The p-T plane in cells, each asked of both regions, and equal cells joined into rectangles.
+//! The p-T plane in cells, each asked of every region, and equal cells joined into rectangles.
 use climboat::{property, Property, Region};
 use std::collections::BTreeMap;
 
-/// What the two regions say of a point: who answers, or the numbers by which they refuse.
-#[derive(Clone, Copy, PartialEq, Eq, PartialOrd, Ord)]
+/// What the regions say of a point.
+#[derive(Clone, PartialEq, Eq, PartialOrd, Ord)]
 pub enum Class {
-    One,
-    Two,
-    Both,
-    Refused(u32, u32),
+    /// By number, those that answer.
+    Answered(Vec<u32>),
+    /// Where none answers: the numbers of refusals, each with the regions that refuse by it.
+    Refused(BTreeMap<u32, Vec<u32>>),
 }
 
 impl Class {
     pub fn of(p: f64, t: f64) -> Class {
-        let volume = |region| property(region, Property::Volume, p, t);
-        match (volume(Region::One), volume(Region::Two)) {
-            (Ok(_), Ok(_)) => Class::Both,
-            (Ok(_), Err(_)) => Class::One,
-            (Err(_), Ok(_)) => Class::Two,
-            (Err(one), Err(two)) => Class::Refused(one.number, two.number),
+        let mut answered = Vec::new();
+        let mut refused: BTreeMap<u32, Vec<u32>> = BTreeMap::new();
+        for region in Region::ALL {
+            match property(*region, Property::Volume, p, t) {
+                Ok(_) => answered.push(region.number()),
+                Err(refusal) => refused
+                    .entry(refusal.number)
+                    .or_default()
+                    .push(region.number()),
+            }
+        }
+        match answered.is_empty() {
+            true => Class::Refused(refused),
+            false => Class::Answered(answered),
         }
     }
 }

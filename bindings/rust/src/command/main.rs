@@ -21,6 +21,7 @@ const SHORT: &str = "climboat answers for water and steam, or refuses by number.
 
   climboat 1 pT v 3 300        the volume in region 1 at 3 MPa and 300 K
   climboat 2 Ts 500 7.2        the pressure in region 2 at 500 K and 7.2 kJ/(kg K)
+  climboat 5 pT h 0.5 1500     the enthalpy in region 5, of a furnace, at 0.5 MPa and 1500 K
   climboat sat T 1             the saturation temperature at 1 MPa
   climboat --help              all of it
 ";

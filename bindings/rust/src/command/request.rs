@@ -1,7 +1,7 @@
 //! A command line as a request to the library, or what is wrong with its words.
 use climboat::{
     b23_pressure, b23_temperature, saturation_pressure, saturation_temperature, Pair, Property,
-    Reading, Refusal, Region, STEP_LIMIT,
+    PvRegion, Reading, Refusal, Region, STEP_LIMIT,
 };
 
 /// How doubles are read and written.
@@ -206,10 +206,8 @@ fn of_region(words: &mut Words, region: Region) -> Result<Request, Wrong> {
         .chain(Pair::ALL.iter().copied().map(Some))
         .collect();
     let symbol = |pair: Option<Pair>| pair.map_or("pT", Pair::symbol).to_string();
-    let Some(pair) = words
-        .next("a pair, pT or pv or Tv or Th or Ts")?
-        .among(&pairs, symbol, "pair")?
-    else {
+    let word = words.next("a pair, pT or pv or Tv or Th or Ts")?;
+    let Some(pair) = word.among(&pairs, symbol, "pair")? else {
         let property = words.next("a property")?.among(
             Property::ALL,
             |property| property.symbol().to_string(),
@@ -224,6 +222,9 @@ fn of_region(words: &mut Words, region: Region) -> Result<Request, Wrong> {
             t,
         });
     };
+    if let (Pair::Pv, Err(without)) = (pair, PvRegion::try_from(region)) {
+        return Err(word.wrong(&format!("is no pair of this region: {without}")));
+    }
     let (fixed, target) = pair.symbol().split_at(1);
     let fixed = words.number(&format!("the number {fixed}"))?;
     let target = words.number(&format!("the number {target}"))?;

@@ -10,12 +10,13 @@ pub struct Call {
 }
 
 impl Call {
-    /// Seven properties and four pairs in each region, and two coordinates of each line.
+    /// Seven properties and three pairs in each region, (p,v) in two of them, and two coordinates of each line.
     pub fn all() -> Vec<Call> {
         let mut all = Vec::new();
         for &kind in Kind::ALL {
-            let regions: Vec<Option<Region>> = match kind.inputs() {
-                [_] => vec![None],
+            let regions: Vec<Option<Region>> = match (kind, kind.inputs()) {
+                (_, [_]) => vec![None],
+                (Kind::Pv, _) => PvRegion::ALL.iter().map(|&pv| Some(pv.into())).collect(),
                 _ => Region::ALL.iter().copied().map(Some).collect(),
             };
             let properties: Vec<Option<Property>> = match kind {
@@ -31,7 +32,7 @@ impl Call {
                 all.extend(calls);
             }
         }
-        assert_eq!(all.len(), 2 * (7 + 4) + 2 * 2);
+        assert_eq!(all.len(), 3 * (7 + 3) + 2 + 2 * 2);
         all
     }
 
@@ -43,7 +44,9 @@ impl Call {
             (Kind::SaturationTemperature, None, None) => saturation_temperature(first),
             (Kind::B23Pressure, None, None) => b23_pressure(first),
             (Kind::B23Temperature, None, None) => b23_temperature(first),
-            (Kind::Pv, Some(region), None) => pv2t(region, first, second, limit),
+            (Kind::Pv, Some(region), None) => {
+                pv2t(PvRegion::try_from(region).unwrap(), first, second, limit)
+            }
             (Kind::Tv, Some(region), None) => tv2p(region, first, second, limit),
             (Kind::Th, Some(region), None) => th2p(region, first, second, limit),
             (Kind::Ts, Some(region), None) => ts2p(region, first, second, limit),

@@ -11,7 +11,7 @@ use Rattle.polynomial.specs.Sums.{step, over, none}
 use Rattle.polynomial.specs.declared.Kind.the-variants.{AloneShared}
 use Rattle.polynomial.specs.declared.Sums.{Sums}
 use Rattle.polynomial.proofs.Components.{alone-shared-sum}
-use Rattle.r2.specs.Region2.{ideal, idealTerms}
+use Rattle.r2.specs.Region2.{equation}
 use borrow.Author.Needs.{needs}
 use Rattle.r2.proofs.region2_gfe.gamma0_shared_reg2.Statement.{statement}
 use Rattle.r2.proofs.region2_gfe.gamma0_shared_reg2.Tie as tie
@@ -38,14 +38,14 @@ tile-requires c κs =
     (record { firsts = tt; seconds = tt; as-long-j = refl; as-long-n = refl }, w .powers .ensures, w .powers .ensures)
 
 returns : tie.Need-returns
-unfolding ideal table rows rounded ofBits stepOf
+unfolding table rows rounded ofBits stepOf
 returns c =
     let t = c .before in
     let l = t .before .before .before .before .before .before .before in
     let a = l .before .args in
     let s : Sums = record { zero = logarithm (a .pi); i = none .i; j = none .j; ii = none .ii; ij = none .ij; jj = none .jj } in
-    let sums : t .tile .result ≡ over (step AloneShared (a .tau) (a .tau)) s idealTerms = rw (l .ln .ensures) at (t .tile .ensures) in
-    let own = alone-shared-sum (a .tau) (a .tau) s idealTerms in
+    let sums : t .tile .result ≡ over (step AloneShared (a .tau) (a .tau)) s (equation .idealTerms) = rw (l .ln .ensures) at (t .tile .ensures) in
+    let own = alone-shared-sum (a .tau) (a .tau) s (equation .idealTerms) in
     rw (sums, own .0, own .1)
 
 pub gamma0-shared-reg2-spec : {M : Type 1} → statement M

@@ -10,7 +10,7 @@ use Rattle.polynomial.specs.Sums.{none}
 use Rattle.polynomial.specs.declared.Sums.{Sums}
 use Rattle.polynomial.proofs.Components.{alone-sum}
 use Rattle.polynomial.specs.declared.Order.the-variants.{Twice}
-use Rattle.r2.specs.Region2.{gamma0TauTau, idealTerms}
+use Rattle.r2.specs.Region2.{equation}
 use borrow.Author.Needs.{needs}
 use Rattle.r2.proofs.region2_gfe.gamma0_tautau_reg2.Statement.{statement}
 use Rattle.r2.proofs.region2_gfe.gamma0_tautau_reg2.Tie as tie
@@ -37,11 +37,11 @@ tile-requires c κs =
     (record { firsts = tt; seconds = tt; as-long-j = refl; as-long-n = refl }, w .powers .ensures, w .powers .ensures)
 
 returns : tie.Need-returns
-unfolding gamma0TauTau table rows rounded ofBits stepOf
+unfolding table rows rounded ofBits stepOf
 returns c =
     let n = c .before .before .before .before .before .before in
     let τ = n .before .before .args .tau in
-    ap (λ (s : Sums). s .zero) (rw (n .none .ensures) at (c .tile .ensures)) ∙ alone-sum τ τ none idealTerms Twice
+    ap (λ (s : Sums). s .zero) (rw (n .none .ensures) at (c .tile .ensures)) ∙ alone-sum τ τ none (equation .idealTerms) Twice
 
 pub gamma0-tautau-reg2-spec : {M : Type 1} → statement M
 gamma0-tautau-reg2-spec =

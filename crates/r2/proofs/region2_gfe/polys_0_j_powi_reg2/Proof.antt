@@ -6,7 +6,7 @@ use Rattle.polynomial.specs.Tables.{rows, allInRange}
 use Rattle.polynomial.specs.Kinds.{divided, only-0-j}
 use Rattle.polynomial.proofs.Components.{sums-0-j}
 use Rattle.r2.specs.Table11.{table}
-use Rattle.r2.specs.Region2.{residual, vj, residualTerms}
+use Rattle.r2.specs.Region2.{equation}
 use borrow.Author.Needs.{needs}
 use Rattle.r2.proofs.region2_gfe.polys_0_j_powi_reg2.Statement.{statement}
 use Rattle.r2.proofs.region2_gfe.polys_0_j_powi_reg2.Tie as tie
@@ -42,14 +42,14 @@ only-0-j-requires : tie.Need-only-0-j-requires
 only-0-j-requires c κs = search needs
 
 returns : tie.Need-returns
-unfolding residual table rows rounded ofBits
+unfolding table rows rounded ofBits
 returns c =
     let d = c .before in
     let t = d .before in
     let n = t .before .before .before .before .before .before in
     let a = n .before .before .before .args in
     rw (c .only-0-j .ensures, d .divided .ensures, rw (n .none .ensures) at (t .tiles .ensures))
-    ((sums-0-j (a .pi) (vj (a .tau)) residualTerms))
+    (sums-0-j (a .pi) (equation .vj (a .tau)) (equation .residualTerms))
 
 pub polys-0-j-powi-reg2-spec : {M : Type 1} → statement M
 polys-0-j-powi-reg2-spec =

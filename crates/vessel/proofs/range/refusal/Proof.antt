@@ -31,6 +31,12 @@ enum-told-2 c = search needs
 limits-2-requires : tie.Need-limits-2-requires
 limits-2-requires c κs = search needs
 
+enum-told-3 : tie.Need-enum-told-3
+enum-told-3 c = search needs
+
+limits-5-requires : tie.Need-limits-5-requires
+limits-5-requires c κs = search needs
+
 returns-3 : tie.Need-returns-3
 unfolding refusal
 returns-3 c = rw (← c .before .before .before .before .before .before .is-finite .ensures, not-false (c .before .before .before .before .before .before .is-finite .result) (c .before .before .before .before .before .if1 .left), ← c .before .before .before .before .is-finite2 .ensures, not-false (c .before .before .before .before .is-finite2 .result) (c .before .before .before .if2 .left), c .before .enum-told .given .1) (c .limits-1 .ensures)
@@ -38,6 +44,10 @@ returns-3 c = rw (← c .before .before .before .before .before .before .is-fini
 returns-4 : tie.Need-returns-4
 unfolding refusal
 returns-4 c = rw (← c .before .before .before .before .before .before .is-finite .ensures, not-false (c .before .before .before .before .before .before .is-finite .result) (c .before .before .before .before .before .if1 .left), ← c .before .before .before .before .is-finite2 .ensures, not-false (c .before .before .before .before .is-finite2 .result) (c .before .before .before .if2 .left), c .before .enum-told2 .given .1) (c .limits-2 .ensures)
+
+returns-5 : tie.Need-returns-5
+unfolding refusal
+returns-5 c = rw (← c .before .before .before .before .before .before .is-finite .ensures, not-false (c .before .before .before .before .before .before .is-finite .result) (c .before .before .before .before .before .if1 .left), ← c .before .before .before .before .is-finite2 .ensures, not-false (c .before .before .before .before .is-finite2 .result) (c .before .before .before .if2 .left), c .before .enum-told3 .given .1) (c .limits-5 .ensures)
 
 pub refusal-spec : {M : Type 1} → statement M
 refusal-spec =
@@ -51,5 +61,8 @@ refusal-spec =
     limits-1-requires
     enum-told-2
     limits-2-requires
+    enum-told-3
+    limits-5-requires
     returns-3
-    returns-4)
+    returns-4
+    returns-5)

@@ -39,6 +39,24 @@ enum-told-4 c = search needs
 pT2s-reg2-requires : tie.Need-pT2s-reg2-requires
 pT2s-reg2-requires c κs = search needs
 
+enum-told-5 : tie.Need-enum-told-5
+enum-told-5 c = search needs
+
+pT2v-reg5-requires : tie.Need-pT2v-reg5-requires
+pT2v-reg5-requires c κs = search needs
+
+enum-told-6 : tie.Need-enum-told-6
+enum-told-6 c = search needs
+
+pT2h-reg5-requires : tie.Need-pT2h-reg5-requires
+pT2h-reg5-requires c κs = search needs
+
+enum-told-7 : tie.Need-enum-told-7
+enum-told-7 c = search needs
+
+pT2s-reg5-requires : tie.Need-pT2s-reg5-requires
+pT2s-reg5-requires c κs = search needs
+
 returns : tie.Need-returns
 returns c =
     let a = c .before .before .args in
@@ -61,6 +79,15 @@ returns-5 c = rw (c .before .enum-told3 .given .1) (c .pT2h-reg2 .ensures)
 returns-6 : tie.Need-returns-6
 returns-6 c = rw (c .before .enum-told4 .given .1) (c .pT2s-reg2 .ensures)
 
+returns-7 : tie.Need-returns-7
+returns-7 c = rw (c .before .enum-told5 .given .1) (c .pT2v-reg5 .ensures)
+
+returns-8 : tie.Need-returns-8
+returns-8 c = rw (c .before .enum-told6 .given .1) (c .pT2h-reg5 .ensures)
+
+returns-9 : tie.Need-returns-9
+returns-9 c = rw (c .before .enum-told7 .given .1) (c .pT2s-reg5 .ensures)
+
 pub formula-spec : {M : Type 1} → statement M
 formula-spec =
     tie.close
@@ -75,9 +102,18 @@ formula-spec =
     pT2h-reg2-requires
     enum-told-4
     pT2s-reg2-requires
+    enum-told-5
+    pT2v-reg5-requires
+    enum-told-6
+    pT2h-reg5-requires
+    enum-told-7
+    pT2s-reg5-requires
     returns
     returns-2
     returns-3
     returns-4
     returns-5
-    returns-6)
+    returns-6
+    returns-7
+    returns-8
+    returns-9)

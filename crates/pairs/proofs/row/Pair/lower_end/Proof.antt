@@ -39,7 +39,7 @@ returns-4 : tie.Need-returns-4
 unfolding rounded ofBits
 returns-4 c =
     let x = c .before .args .fixed in
-    among (λ pair. always p-least x ≡ row pair .lower x) (5 ∷ (6 ∷ (7 ∷ []))) (c .before .args .self) (c .match .keys4) (refl, (refl, (refl, tt)))
+    among (λ pair. always p-least x ≡ row pair .lower x) (5 ∷ (6 ∷ (7 ∷ (8 ∷ (9 ∷ (10 ∷ [])))))) (c .before .args .self) (c .match .keys4) (refl, (refl, (refl, (refl, (refl, (refl, tt))))))
 
 pub lower-end-spec : {M : Type 1} → statement M
 lower-end-spec =

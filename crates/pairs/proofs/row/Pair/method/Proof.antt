@@ -21,7 +21,7 @@ returns-2 : tie.Need-returns-2
 returns-2 c = rw (c .enum-told2 .given .1) refl
 
 returns-3 : tie.Need-returns-3
-returns-3 c = among (λ pair. ByBrent ≡ row pair .method) (1 ∷ (2 ∷ (3 ∷ (4 ∷ (6 ∷ (7 ∷ [])))))) (c .before .args .self) (c .match .keys3) (refl, (refl, (refl, (refl, (refl, (refl, tt))))))
+returns-3 c = among (λ pair. ByBrent ≡ row pair .method) (1 ∷ (2 ∷ (3 ∷ (4 ∷ (6 ∷ (7 ∷ (8 ∷ (9 ∷ (10 ∷ []))))))))) (c .before .args .self) (c .match .keys3) (refl, (refl, (refl, (refl, (refl, (refl, (refl, (refl, (refl, tt)))))))))
 
 pub method-spec : {M : Type 1} → statement M
 method-spec = tie.close (tie.spec enum-told enum-told-2 returns returns-2 returns-3)

@@ -3,7 +3,7 @@ use mathlib.Core.Path.{_≡_, refl}
 use mathlib.Core.List.{[], _∷_}
 use lib.Ieee.{ofBits}
 use Rattle.float.specs.Decimal.{rounded}
-use Rattle.common.specs.Constant.{p-most}
+use Rattle.common.specs.Constant.{p-50, p-most}
 use Rattle.r4.specs.Ends.{always}
 use Rattle.pairs.specs.Rows.{row}
 use borrow.Author.Needs.{needs}
@@ -42,6 +42,12 @@ returns-3 c = rw (c .enum-told2 .given .1)
 returns-4 : tie.Need-returns-4
 returns-4 c = rw (c .before .enum-told3 .given .1) (c .T2pmax-reg2 .ensures)
 
+returns-5 : tie.Need-returns-5
+unfolding rounded ofBits
+returns-5 c =
+    let x = c .before .args .fixed in
+    among (λ pair. always p-50 x ≡ row pair .upper x) (8 ∷ (9 ∷ (10 ∷ []))) (c .before .args .self) (c .match .keys5) (refl, (refl, (refl, tt)))
+
 pub upper-end-spec : {M : Type 1} → statement M
 upper-end-spec =
     tie.close
@@ -54,4 +60,5 @@ upper-end-spec =
     returns
     returns-2
     returns-3
-    returns-4)
+    returns-4
+    returns-5)
