@@ -59,22 +59,22 @@ fn a_property_is_two_lines() {
 
 #[test]
 fn a_search_is_seven_lines() {
-    let pv = pv2t(PvRegion::One, 3.0, 0.001, STEP_LIMIT).unwrap();
-    answers("1 pv 3 0.001", searched("T", "K", "(relative)", pv));
-    let pv = pv2t(PvRegion::Two, 1.0, 0.3, STEP_LIMIT).unwrap();
-    answers("2 pv 1 0.3", searched("T", "K", "m^3/kg", pv));
-    let tv = tv2p(Region::One, 500.0, 0.0012, STEP_LIMIT).unwrap();
-    answers("1 Tv 500 0.0012", searched("p", "MPa", "m^3/kg", tv));
-    let tv = tv2p(Region::Two, 500.0, 0.1, STEP_LIMIT).unwrap();
-    answers("2 Tv 500 0.1", searched("p", "MPa", "(relative)", tv));
-    let th = th2p(Region::Two, 600.0, 3000.0, STEP_LIMIT).unwrap();
-    answers("2 Th 600 3000", searched("p", "MPa", "kJ/kg", th));
-    let tv = tv2p(Region::Five, 1500.0, 1.3845, STEP_LIMIT).unwrap();
-    answers("5 Tv 1500 1.3845", searched("p", "MPa", "m^3/kg", tv));
-    let th = th2p(Region::Five, 1500.0, 5200.0, STEP_LIMIT).unwrap();
-    answers("5 Th 1500 5200", searched("p", "MPa", "kJ/kg", th));
-    let ts = ts2p(Region::Five, 1500.0, 9.0, STEP_LIMIT).unwrap();
-    answers("5 Ts 1500 9", searched("p", "MPa", "kJ/(kg K)", ts));
+    for (pair, region, fixed, target, residual_unit) in [
+        (Pair::Pv, Region::One, 3.0, 0.001, "(relative)"),
+        (Pair::Pv, Region::Two, 1.0, 0.3, "m^3/kg"),
+        (Pair::Tv, Region::One, 500.0, 0.0012, "m^3/kg"),
+        (Pair::Tv, Region::Two, 500.0, 0.1, "(relative)"),
+        (Pair::Tv, Region::Five, 1500.0, 1.3845, "m^3/kg"),
+        (Pair::Th, Region::Two, 600.0, 3000.0, "kJ/kg"),
+        (Pair::Th, Region::Five, 1500.0, 5200.0, "kJ/kg"),
+        (Pair::Ts, Region::Five, 1500.0, 9.0, "kJ/(kg K)"),
+    ] {
+        let reading = search(pair, region, fixed, target, STEP_LIMIT).unwrap();
+        answers(
+            &format!("{} {} {fixed} {target}", region.number(), pair.symbol()),
+            searched(pair.found(), pair.unit(), residual_unit, reading),
+        );
+    }
     let ts = ts2p(Region::Two, 500.0, 7.2, 40).unwrap();
     let expected = searched("p", "MPa", "kJ/(kg K)", ts);
     assert_eq!(expected.lines().count(), 7);
