@@ -11,6 +11,7 @@
 #define CLIMBOAT_H
 
 #include <stdbool.h>
+#include <stddef.h>
 #include <stdint.h>
 
 #ifdef __cplusplus
@@ -18,7 +19,7 @@ extern "C" {
 #endif
 
 /* The version of Climboat, and what it follows. */
-#define CLIMBOAT_VERSION "0.6.0"
+#define CLIMBOAT_VERSION "0.7.0"
 #define CLIMBOAT_FOLLOWS "seuif97 2.3.8 and IAPWS R7-97(2012)"
 
 /* The region, always named by the caller; CLIMBOAT_NO_REGION and any other number are refused by CLIMBOAT_NOTHING_NAMED. Every call that names one takes all three, but for climboat_pv2T,
@@ -85,13 +86,18 @@ enum climboat_refusal {
     CLIMBOAT_RESULT_NOT_FINITE = 9,   /* a property, saturation or B23 result is not finite */
     CLIMBOAT_POINT_OUTSIDE = 10,      /* the next point is outside the bracket */
     CLIMBOAT_LIMIT_TOO_LARGE = 11,    /* the step limit is above CLIMBOAT_LARGEST_STEP_LIMIT */
-    CLIMBOAT_NOTHING_NAMED = 21       /* the number given for a region or a property names none that the call has: climboat_pv2T has no region 5 */
+    CLIMBOAT_LOG_LENGTHS = 13,        /* climboat_pT_log alone: the four runs have not one length, or one above CLIMBOAT_LONGEST_LOG */
+    CLIMBOAT_NOTHING_NAMED = 21,      /* the number given for a region or a property names none that the call has: climboat_pv2T has no region 5 */
+    CLIMBOAT_RUNS_NOT_LENT = 22       /* climboat_pT_log alone: a run that has places is null, or one that is written shares memory with another */
 };
 
 /* CLIMBOAT_STEP_LIMIT is the step limit that the vessels use, CLIMBOAT_LARGEST_STEP_LIMIT the largest that a search takes: one above it is refused by 11. Up to it a larger limit never
  * changes an answer or a refusal other than 8: every column of the record stays, bit for bit. 8 alone may turn into something else: an answer, 6 or 10. */
 #define CLIMBOAT_STEP_LIMIT 20000u
 #define CLIMBOAT_LARGEST_STEP_LIMIT 65535u
+
+/* The most places that climboat_pT_log fills in one call: a longer log is refused by 13. */
+#define CLIMBOAT_LONGEST_LOG 4096u
 
 /* What every call answers, and what that is of. number is CLIMBOAT_ANSWERED, or a refusal's number; value counts only where it is CLIMBOAT_ANSWERED.
  * A residual compares the target of a search, its second input, with what is found at an end of the bracket by the same property's formula: above 0 the target is the larger. */
@@ -127,6 +133,10 @@ void climboat_Tv2p_columns(uint32_t region, double T, double v, uint32_t limit, 
 void climboat_Th2p_columns(uint32_t region, double T, double h, uint32_t limit, uint32_t numbers[8], double doubles[8]);
 void climboat_Ts2p_columns(uint32_t region, double T, double s, uint32_t limit, uint32_t numbers[8], double doubles[8]);
 
+/* The archive's log, whose runs must not be null, and whose written runs must not share memory with another: it does not look, and climboat_pT_log does. */
+uint32_t climboat_pT_log_runs(uint32_t region, uint32_t property, const double *p, size_t p_length, const double *T, size_t T_length, double *values, size_t values_length, uint32_t *numbers,
+                              size_t numbers_length);
+
 /* What a call is lent, and what it wrote there as an answer. */
 struct climboat_record {
     uint32_t numbers[8];
@@ -160,6 +170,49 @@ static inline struct climboat_answer climboat_pT(uint32_t region, uint32_t prope
     struct climboat_record record;
     climboat_pT_columns(region, property, p, T, record.numbers, record.doubles);
     return climboat_answer_of(&record);
+}
+
+/* Whether two runs of at least one byte share one. The distance between their starts is compared, not where they end: a sum could wrap. */
+static inline bool climboat_runs_share(const void *one, size_t one_bytes, const void *other, size_t other_bytes)
+{
+    uintptr_t a = (uintptr_t)one, b = (uintptr_t)other;
+    return a < b ? b - a < one_bytes : a - b < other_bytes;
+}
+
+/* Whether four runs of this many places, from 1 to CLIMBOAT_LONGEST_LOG, are there, and each of the two that are written lies apart from all others. */
+static inline bool climboat_are_lent(const double *p, const double *T, const double *values, const uint32_t *numbers, size_t places)
+{
+    size_t doubles_bytes = places * sizeof(double), numbers_bytes = places * sizeof(uint32_t);
+    if (p == NULL || T == NULL || values == NULL || numbers == NULL) return false;
+    return !climboat_runs_share(p, doubles_bytes, values, doubles_bytes) && !climboat_runs_share(T, doubles_bytes, values, doubles_bytes) &&
+           !climboat_runs_share(p, doubles_bytes, numbers, numbers_bytes) && !climboat_runs_share(T, doubles_bytes, numbers, numbers_bytes) &&
+           !climboat_runs_share(values, doubles_bytes, numbers, numbers_bytes);
+}
+
+/* A whole log at once: a property of a region at every p[k] in MPa and T[k] in K. values[k] and numbers[k] become the value and the number that climboat_pT gives there: the value is 0 where it
+ * refuses, the number 0 where it answers, and no refusal stops the rest. The four lengths are in places. What comes back is
+ *    0  both runs are filled, whatever was refused; with length 0 there is nothing to fill, and a run may be null
+ *   13  CLIMBOAT_LOG_LENGTHS: the four lengths differ, or exceed CLIMBOAT_LONGEST_LOG
+ *   21  CLIMBOAT_NOTHING_NAMED, before 13: the number of the region or of the property names none
+ *   22  CLIMBOAT_RUNS_NOT_LENT, before 21: the lengths are right, and a run that has places is null, or values or numbers shares memory with another run. p and T may share theirs.
+ * Whatever comes back that is not 0, nothing was written. A longer log goes in runs of CLIMBOAT_LONGEST_LOG:
+ *
+ *   for (size_t from = 0, n; from < length; from += n) {
+ *       n = length - from < CLIMBOAT_LONGEST_LOG ? length - from : CLIMBOAT_LONGEST_LOG;
+ *       uint32_t number = climboat_pT_log(CLIMBOAT_REGION_1, CLIMBOAT_VOLUME, p + from, n, T + from, n, values + from, n, numbers + from, n);
+ *       if (number != 0) return number;
+ *   } */
+static inline uint32_t climboat_pT_log(uint32_t region, uint32_t property, const double *p, size_t p_length, const double *T, size_t T_length, double *values, size_t values_length,
+                                       uint32_t *numbers, size_t numbers_length)
+{
+    /* the archive takes no null pointer: these stand for one where no place is read or written */
+    const double no_input = 0.0;
+    double no_value = 0.0;
+    uint32_t no_number = 0;
+    bool one_length = T_length == p_length && values_length == p_length && numbers_length == p_length;
+    if (one_length && p_length != 0 && p_length <= CLIMBOAT_LONGEST_LOG && !climboat_are_lent(p, T, values, numbers, p_length)) return CLIMBOAT_RUNS_NOT_LENT;
+    return climboat_pT_log_runs(region, property, p != NULL ? p : &no_input, p_length, T != NULL ? T : &no_input, T_length, values != NULL ? values : &no_value, values_length,
+                                numbers != NULL ? numbers : &no_number, numbers_length);
 }
 
 /* The saturation pressure in MPa at T in K, from 273.15 to 647.096 K. */
@@ -256,7 +309,9 @@ static inline const char *climboat_sentence(uint32_t number)
     case CLIMBOAT_RESULT_NOT_FINITE: return "a property, saturation or B23 result is not finite";
     case CLIMBOAT_POINT_OUTSIDE: return "the next point of the search is outside its bracket";
     case CLIMBOAT_LIMIT_TOO_LARGE: return "the step limit is above 65535";
+    case CLIMBOAT_LOG_LENGTHS: return "the four runs of a log have not one length, or one above 4096";
     case CLIMBOAT_NOTHING_NAMED: return "the number given for a region or a property names none that this call has; (p,v) has regions 1 and 2 alone";
+    case CLIMBOAT_RUNS_NOT_LENT: return "a run of a log that has places is null, or one that is written shares memory with another";
     default: return "no refusal has this number";
     }
 }

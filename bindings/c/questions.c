@@ -210,6 +210,26 @@ static bool takes_p_first(enum climboat_kind kind)
     return kind == CLIMBOAT_KIND_PT || kind == CLIMBOAT_KIND_PV || kind == CLIMBOAT_KIND_SATURATION_TEMPERATURE || kind == CLIMBOAT_KIND_B23_TEMPERATURE;
 }
 
+/* p and T of a state that the question's call may answer. */
+static void draw_ordinary(const struct question *q, double *p, double *T)
+{
+    *p = ordinary_p(q);
+    *T = ordinary_T(q);
+    if (q->region == CLIMBOAT_REGION_2 && draw_below(16) == 0) {
+        /* the corner where terms of the equation become subnormal */
+        *p = draw_exponents(-27, -20);
+        *T = draw_between(1040.0, 1073.15);
+    }
+}
+
+void draw_state(uint32_t region, double *p, double *T)
+{
+    struct question q = {CLIMBOAT_KIND_PT, region, CLIMBOAT_NO_PROPERTY, 0, 0.0, 0.0};
+    draw_ordinary(&q, p, T);
+    *p = draw_or(*p);
+    *T = draw_or(*T);
+}
+
 struct question draw_question(void)
 {
     static const uint32_t limits[] = {0, 1, 40, CLIMBOAT_STEP_LIMIT, CLIMBOAT_STEP_LIMIT, CLIMBOAT_STEP_LIMIT, CLIMBOAT_LARGEST_STEP_LIMIT, CLIMBOAT_LARGEST_STEP_LIMIT + 1};
@@ -220,13 +240,7 @@ struct question draw_question(void)
     q.region = regions[draw_below(q.kind == CLIMBOAT_KIND_PV ? REGIONS - 1 : REGIONS)];
     q.property = 1 + draw_below(7);
     q.limit = limits[draw_below(sizeof limits / sizeof limits[0])];
-    p = ordinary_p(&q);
-    T = ordinary_T(&q);
-    if (q.region == CLIMBOAT_REGION_2 && draw_below(16) == 0) {
-        /* the corner where terms of the equation become subnormal */
-        p = draw_exponents(-27, -20);
-        T = draw_between(1040.0, 1073.15);
-    }
+    draw_ordinary(&q, &p, &T);
     q.first = draw_or(takes_p_first(q.kind) ? p : T);
     q.second = q.kind == CLIMBOAT_KIND_PT ? draw_or(T) : 0.0;
     if (target_of(q.kind) != CLIMBOAT_NO_PROPERTY) q.second = draw_or(draw_target(target_of(q.kind), q.region, p, T));

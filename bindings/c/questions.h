@@ -53,11 +53,13 @@ bool names_nothing(const struct question *q);
 /* Whether the answer says that it is of the question, with the same inputs bit for bit. */
 bool is_of(const struct climboat_answer *answer, const struct question *q);
 
-/* The draws: of 64 bits, below a bound, of any mantissa with an exponent from the lower to the upper one, of a subnormal, and of a question. */
+/* The draws: of 64 bits, below a bound, of any mantissa with an exponent from the lower to the upper one, of a subnormal, of p and T of a region (one in eight of each is an edge, or any
+ * double), and of a question. */
 uint64_t draw(void);
 uint32_t draw_below(uint32_t bound);
 double draw_exponents(int lower, int upper);
 double draw_subnormal(void);
+void draw_state(uint32_t region, double *p, double *T);
 struct question draw_question(void);
 
 #endif

@@ -1,5 +1,5 @@
-//! How many times as long as the original, or as Rust's own, a row of the timings may take, and which rows took longer.
-// without the original crate the logarithm's row alone has a bar
+//! How many times as long as the original, as Rust's own or, of a log, as single calls, a row of the timings may take, and which rows took longer.
+// without the original crate the logarithm's row and the logs' alone have bars
 #![cfg_attr(not(feature = "original"), allow(dead_code))]
 
 /// What document 02 asks of region 1 v by the public checked call; the bar of that row lies below it.
@@ -21,6 +21,9 @@ pub const SEARCH_BY_LOGARITHM: TimeBar = TimeBar { most: 1.6, goal: 1.1 };
 pub const SATURATION: TimeBar = TimeBar { most: 4.5, goal: 2.5 };
 pub const LOGARITHM: TimeBar = TimeBar { most: 4.0, goal: 2.0 };
 
+/// One call over 4,096 places costs no more for a place than the single call.
+pub const LOG: f64 = 1.0;
+
 /// The bars that rows were held against, and a line for each that was missed.
 #[derive(Default)]
 pub struct Bars {
@@ -34,13 +37,18 @@ impl Bars {
         let Some(TimeBar { most, goal }) = bar else {
             return String::from(" - | - |");
         };
+        self.keep(what, ratio, most) + &format!(" {goal:.1} |")
+    }
+
+    /// The same of a row that has a bar and no goal.
+    pub fn keep(&mut self, what: &str, ratio: f64, most: f64) -> String {
         self.held += 1;
         // asked so that NaN, the ratio of no inputs, is a miss
         let kept = ratio <= most;
         if !kept {
             self.missed.push(format!("{what}: {ratio:.2} times the other's time, the bar is {most:.2}"));
         }
-        format!(" {most:.1} | {goal:.1} |")
+        format!(" {most:.1} |")
     }
 
     /// Prints the bars that were missed, or that all were kept, and answers whether they were.

@@ -1,6 +1,8 @@
-//! What Climboat's two archives offer, wrapped once: no function of them asks anything of its caller.
+//! What Climboat's two archives offer, wrapped once: no function of them asks anything of its caller but what Rust's references have anyway, that nothing else points at what is lent to be written.
 // without the original crate the equations and the searches have nothing to be compared with
 #![cfg_attr(not(feature = "original"), allow(dead_code))]
+
+use std::mem::MaybeUninit;
 
 macro_rules! exports {
     ($($name:ident($($x:ident: $t:ty),*) -> $r:ty = $symbol:ident;)*) => {
@@ -67,6 +69,8 @@ extern "C" {
     fn climboat_Tv2p_columns(region: u32, t: f64, v: f64, limit: u32, numbers: Numbers, doubles: Doubles);
     fn climboat_Th2p_columns(region: u32, t: f64, h: f64, limit: u32, numbers: Numbers, doubles: Doubles);
     fn climboat_Ts2p_columns(region: u32, t: f64, s: f64, limit: u32, numbers: Numbers, doubles: Doubles);
+    // each run by where it begins and its length
+    fn climboat_pT_log_runs(region: u32, property: u32, p: *const f64, p_length: usize, t: *const f64, t_length: usize, values: *mut f64, values_length: usize, numbers: *mut u32, numbers_length: usize) -> u32;
 }
 
 /// The calls of one number.
@@ -140,7 +144,9 @@ impl Record {
 
     /// Every column, bit for bit.
     pub fn same(&self, other: &Record) -> bool {
-        self.numbers() == other.numbers() && self.doubles().map(f64::to_bits) == other.doubles().map(f64::to_bits)
+        // place by place: == of two arrays calls the library's memcmp, which took a fifth of the comparisons' time
+        let numbers = self.numbers().into_iter().zip(other.numbers()).all(|(a, b)| a == b);
+        numbers && self.doubles().into_iter().zip(other.doubles()).all(|(a, b)| a.to_bits() == b.to_bits())
     }
 
     /// Whether it reports a bracket: an answer of a search, and the refusals 6, 8 and 10.
@@ -162,6 +168,22 @@ impl From<copy::run::Run> for Record {
 #[inline]
 pub fn property(region: u32, property: u32, p: f64, t: f64) -> Record {
     written([p, t], |numbers, doubles| unsafe { climboat_pT_columns(region, property, p, t, numbers, doubles) })
+}
+
+/// Of the same call the number and the value alone, with two arrays lent as they come: the least that a caller of single calls can do, for the timings.
+#[inline]
+pub fn number_and_value(region: u32, property: u32, p: f64, t: f64) -> (u32, f64) {
+    let (mut numbers, mut doubles) = (MaybeUninit::uninit(), MaybeUninit::uninit());
+    unsafe {
+        climboat_pT_columns(region, property, p, t, numbers.as_mut_ptr(), doubles.as_mut_ptr());
+        (numbers.assume_init()[0], doubles.assume_init()[0])
+    }
+}
+
+/// One call over the four lent runs of a log, and what comes back.
+#[inline]
+pub fn log(region: u32, property: u32, p: &[f64], t: &[f64], values: &mut [f64], numbers: &mut [u32]) -> u32 {
+    unsafe { climboat_pT_log_runs(region, property, p.as_ptr(), p.len(), t.as_ptr(), t.len(), values.as_mut_ptr(), values.len(), numbers.as_mut_ptr(), numbers.len()) }
 }
 
 #[inline]

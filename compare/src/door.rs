@@ -1,6 +1,7 @@
 //! Region 1's door check, which lets a pressure in by a bound and else asks the saturation line: what it answers about the line, against the second reading, and how often it goes by the bound.
 //! The bound is private, so it is written here a second time; nothing is decided by that, it only says where to ask and counts.
 
+use crate::by_log::ByLog;
 use crate::draw::Draw;
 use crate::equations::beside;
 use crate::question::Question;
@@ -65,6 +66,7 @@ fn pressure(draw: &mut Draw, t: f64) -> f64 {
 pub fn compare() -> bool {
     let mut draw = Draw::new(0x0c1b_0a70_0000_000d);
     let mut tally = Tally::new("region 1's door check, by (p,T) to v");
+    let mut by_log = ByLog::new("region 1's door check, by the log");
     let [mut inside, mut by_bound] = [0, 0];
     for _ in 0..3_000_000 {
         let t = temperature(&mut draw);
@@ -73,9 +75,11 @@ pub fn compare() -> bool {
         let record = question.climboat();
         inside += u64::from(record.number == 0);
         by_bound += u64::from(record.number == 0 && bound(t).is_some_and(|bound| bound <= p));
-        tally.check(record.same(&question.table()), || question.digits());
+        let second = question.table();
+        tally.check(record.same(&second), || question.digits());
+        by_log.ask(&question, &second);
     }
-    tally.told(&format!(", about the saturation line: {inside} inside, {by_bound} of them by the bound"))
+    tally.told(&format!(", about the saturation line: {inside} inside, {by_bound} of them by the bound")) & by_log.told()
 }
 
 /// Over a million temperatures from 273.15 to 623.15 K where the bound lies, and over a million states inside region 1 how many go by it.

@@ -1,10 +1,11 @@
 //! Any two doubles: pairs of random bit patterns and plausible pairs, each over every public call, against the second reading of the refusal table; and every search under a second limit, against what the step counts promise.
 
+use crate::by_log::ByLog;
 use crate::climboat::{Record, EXACT_END, INSIDE, NARROW, OUTSIDE, SMALL_RESIDUAL, VALUE};
 use crate::draw::Draw;
 use crate::patience::{Outcome, Turned};
 use crate::plausible;
-use crate::question::{Question, LINES, PAIRS, PV_REGIONS, REGIONS};
+use crate::question::{Question, LINES, PAIRS, PROPERTIES, PV_REGIONS, REGIONS};
 use copy::run::same_sign;
 use std::thread;
 
@@ -21,8 +22,6 @@ const THREADS: u64 = 2;
 
 /// The numbers of the table that a call gives.
 const NUMBERS: [u32; 12] = [1, 2, 3, 4, 5, 6, 7, 8, 9, 10, 11, 21];
-
-const PROPERTIES: [u32; 7] = [1, 2, 3, 4, 5, 6, 7];
 
 type Kind = fn(&mut Draw) -> (f64, f64);
 
@@ -53,8 +52,7 @@ fn compare(n: u64) -> bool {
             threads.into_iter().fold(Counts::new(), |counts, thread| counts.with(&thread.join().expect("a thread of doubles.rs")))
         });
         println!("{n} {name}, each over every call:");
-        counts.print();
-        good &= counts.differ == 0;
+        good &= counts.told();
     }
     good
 }
@@ -75,6 +73,7 @@ fn asked(kind: Kind, seed: u64, n: u64, first: u64) -> Counts {
             }
         }
     }
+    counts.by_log.ask_rest();
     counts
 }
 
@@ -86,22 +85,12 @@ fn questions(draw: &mut Draw, a: f64, b: f64) -> Vec<Question> {
         list.extend(PAIRS.map(|pair| Question::Search(pair, region, a, b, plausible::limit(draw))));
     }
     list.extend(LINES.into_iter().flat_map(|line| [a, b].map(|x| Question::Line(line, x))));
-    let region = unknown(draw, &REGIONS);
+    let region = plausible::unknown(draw, &REGIONS);
     list.push(Question::Property(region, 1 + draw.below(7) as u32, a, b));
     let known = REGIONS[draw.below(3) as usize];
-    list.push(Question::Property(known, unknown(draw, &PROPERTIES), a, b));
+    list.push(Question::Property(known, plausible::unknown(draw, &PROPERTIES), a, b));
     list.extend(PAIRS.map(|pair| Question::Search(pair, region, a, b, plausible::limit(draw))));
     list
-}
-
-/// A number of any size that names nothing: one that does is raised by the largest that does.
-fn unknown(draw: &mut Draw, known: &[u32]) -> u32 {
-    let any = draw.bits() as u32 >> draw.below(32);
-    if known.contains(&any) {
-        any + known[known.len() - 1]
-    } else {
-        any
-    }
 }
 
 /// Whether what Climboat gives has the form of an answer or a refusal at all, whatever the second reading says.
@@ -144,6 +133,7 @@ struct Counts {
     met: [[u64; OUTCOMES]; ROWS],
     turned: Turned,
     differ: u64,
+    by_log: ByLog,
 }
 
 /// For each kind a row where a number names nothing, and one for each region.
@@ -168,7 +158,7 @@ fn outcome(record: &Record) -> usize {
 
 impl Counts {
     fn new() -> Counts {
-        Counts { met: [[0; OUTCOMES]; ROWS], turned: Turned::default(), differ: 0 }
+        Counts { met: [[0; OUTCOMES]; ROWS], turned: Turned::default(), differ: 0, by_log: ByLog::new("  (p,T) by the log") }
     }
 
     fn with(mut self, other: &Counts) -> Counts {
@@ -177,6 +167,7 @@ impl Counts {
         }
         self.turned.with(&other.turned);
         self.differ += other.differ;
+        self.by_log.add(&other.by_log);
         self
     }
 
@@ -187,6 +178,7 @@ impl Counts {
         } else {
             self.differs(|| format!("{}: {ours:?}; the second reading {second:?}", question.digits()));
         }
+        self.by_log.ask(question, &second);
         ours
     }
 
@@ -204,7 +196,8 @@ impl Counts {
         }
     }
 
-    fn print(&self) {
+    /// Prints what was met, and answers whether nothing differed.
+    fn told(self) -> bool {
         for (row, met) in self.met.iter().enumerate().filter(|(_, met)| met.iter().any(|&n| n > 0)) {
             let call = ["", "(p,T)", "saturation pressure", "saturation temperature", "B23 pressure", "B23 temperature", "(p,v)", "(T,v)", "(T,h)", "(T,s)"][row / OF_A_KIND];
             let region = match (row / OF_A_KIND, row % OF_A_KIND) {
@@ -212,16 +205,17 @@ impl Counts {
                 (_, 0) => String::from("an unknown region or property, "),
                 (_, place) => format!("region {} ", REGIONS[place - 1]),
             };
-            let parts: Vec<String> = met.iter().enumerate().filter(|(_, n)| **n > 0).map(|(outcome, n)| format!("{n} {}", told(outcome))).collect();
+            let parts: Vec<String> = met.iter().enumerate().filter(|(_, n)| **n > 0).map(|(outcome, n)| format!("{n} {}", outcome_told(outcome))).collect();
             println!("  {region}{call}: {}", parts.join(", "));
         }
         let never: Vec<String> = NUMBERS.iter().filter(|&&n| self.met.iter().all(|met| met[n as usize] == 0)).map(u32::to_string).collect();
         println!("  {} searches under a second limit: {}", self.turned.held, self.turned.told());
         println!("  refusals that never occurred: {}; {} differ", if never.is_empty() { String::from("none") } else { never.join(", ") }, self.differ);
+        self.by_log.told() & (self.differ == 0)
     }
 }
 
-fn told(outcome: usize) -> String {
+fn outcome_told(outcome: usize) -> String {
     let Some(answer) = outcome.checked_sub(REFUSALS) else {
         return format!("refused by {outcome}");
     };

@@ -1,9 +1,12 @@
 //! The equations of regions 1 and 2, the saturation line and B23 against the original crate; those of region 5, whose operations are in another order than the original's, against the test copy.
 
 use crate::bars::{self, TimeBar};
+use crate::by_log::ByLog;
 use crate::climboat;
 use crate::draw::{same, Draw};
 use crate::plausible::magnitude;
+use crate::question::{Question, PROPERTIES};
+use crate::table;
 use crate::tally::Tally;
 use copy::r5::region5_pT as copy5;
 use original::common::boundaries::{B23_T2p, B23_p2T};
@@ -79,25 +82,23 @@ pub const REGION_5: [Row; 7] = [
     row_5("region 5 w", climboat::region5_w, r5::pT2w_reg5, copy5::pT2w_reg5),
 ];
 
-/// Every equation; whether all kept their bar.
+/// Every equation, those by (p,T) by the log too; whether all kept their bar.
 pub fn compare() -> bool {
     let one = states(0x0c1b_0a70_0000_0011, region_1);
     let two = states_of_region_2();
     let five = states(0x0c1b_0a70_0000_0014, region_5);
+    let mut by_log = ByLog::new("regions 1, 2 and 5, by the log");
     let mut good = true;
-    for r in &REGION_1 {
-        good &= hold(r, &one);
+    for (region, rows, states) in [(1, &REGION_1, one), (2, &REGION_2, two), (5, &REGION_5, five)] {
+        for (row, property) in rows.iter().zip(PROPERTIES) {
+            good &= hold(row, &states, |p, t, value| by_log.ask(&Question::Property(region, property, p, t), &table::checked(region, p, t, |_, _| value)));
+        }
     }
-    for r in &REGION_2 {
-        good &= hold(r, &two);
-    }
-    for r in &REGION_5 {
-        good &= hold(r, &five);
-    }
-    good & lines()
+    good & lines() & by_log.told()
 }
 
-fn hold(row: &Row, states: &[(f64, f64)]) -> bool {
+/// One equation; each state and its value are also given to the last.
+fn hold(row: &Row, states: &[(f64, f64)], mut also: impl FnMut(f64, f64, f64)) -> bool {
     let mut tally = Tally::new(row.name);
     let mut largest = 0.0f64;
     for &(p, t) in states {
@@ -110,6 +111,8 @@ fn hold(row: &Row, states: &[(f64, f64)]) -> bool {
             Bar::Told => true,
         };
         tally.check(kept, || format!("p = {p:e}, T = {t:e}: {a:e}, the other {b:e}"));
+        // the other's double, or ours where the two may lie apart
+        also(p, t, if matches!(row.bar, Bar::Bits) { b } else { a });
     }
     let more = match row.bar {
         Bar::Bits => String::from(", bit for bit"),
@@ -236,7 +239,7 @@ fn lines() -> bool {
             list.push((0.0, draw.between(low, high)));
             list.push((0.0, draw.logarithmic(low, high)));
         }
-        good &= hold(&row, &list);
+        good &= hold(&row, &list, |_, _, _| ());
     }
     good
 }

@@ -1,8 +1,9 @@
-//! Climboat against Rust: `compare helpers` compares the float helpers, `compare nans` asks every call with every kind of NaN, `compare equations` the equations with the original crate, region 5's with its test copy, and region 1's door check with the refusal table read a second time, `compare searches` the pair searches with its test copy and with itself, `compare doubles` any two doubles with the refusal table and the steps of bisection read a second time, `compare recorded` makes the answers that crates/replay keeps, `compare vacuum` searches region 2 (T,v) from a low vacuum upwards and makes a table of docs/DIFFERENCES.md, `compare entropy` holds region 2's entropy and differences of two against the original crate and makes another, `compare region5` holds region 5 against the original crate and beside region 2 and makes two more, `compare timing` prints the tables of docs/SPEED.md, with `--bars` also which of their bars were missed, `compare desk` prints the times and `compare desk states` the states and answers that compare/desk holds against a steam table in Python.
+//! Climboat against Rust: `compare helpers` compares the float helpers, `compare nans` asks every call with every kind of NaN, `compare log` fills logs and holds every place against the single call, `compare equations` the equations with the original crate, region 5's with its test copy, and region 1's door check with the refusal table read a second time, `compare searches` the pair searches with its test copy and with itself, `compare doubles` any two doubles with the refusal table and the steps of bisection read a second time, `compare recorded` makes the answers that crates/replay keeps, `compare vacuum` searches region 2 (T,v) from a low vacuum upwards and makes a table of docs/DIFFERENCES.md, `compare entropy` holds region 2's entropy and differences of two against the original crate and makes another, `compare region5` holds region 5 against the original crate and beside region 2 and makes two more, `compare timing` prints the tables of docs/SPEED.md, with `--bars` also which of their bars were missed, `compare desk` prints the times and `compare desk states` the states and answers that compare/desk holds against a steam table in Python.
 
 mod bars;
 #[cfg(feature = "original")]
 mod bound;
+mod by_log;
 mod climboat;
 mod desk;
 #[cfg(feature = "original")]
@@ -17,6 +18,8 @@ mod entropy;
 #[cfg(feature = "original")]
 mod equations;
 mod helpers;
+mod lent;
+mod log;
 #[cfg(feature = "original")]
 mod many;
 mod nans;
@@ -26,7 +29,6 @@ mod page;
 mod pairs;
 #[cfg(feature = "original")]
 mod patience;
-#[cfg(feature = "original")]
 mod plausible;
 mod question;
 #[cfg(feature = "original")]
@@ -50,6 +52,7 @@ fn main() -> ExitCode {
     match words.iter().map(String::as_str).collect::<Vec<_>>()[..] {
         ["helpers"] => told(helpers::compare()),
         ["nans"] => told(nans::compare()),
+        ["log"] => told(log::compare()),
         #[cfg(feature = "original")]
         ["equations"] => told(equations::compare() & door::compare()),
         #[cfg(feature = "original")]
@@ -78,7 +81,7 @@ fn main() -> ExitCode {
         ["desk"] => done(desk::print_times),
         ["desk", "states"] => done(desk::print_states),
         _ => {
-            eprintln!("usage: compare helpers | nans | equations | searches | doubles [N] | recorded [FOLDER | --check] | vacuum [--check] | entropy [--check] | region5 [--check] | timing [--bars] | desk [states] (helpers, nans, timing without --bars and desk alone where the original crate is not at hand)");
+            eprintln!("usage: compare helpers | nans | log | equations | searches | doubles [N] | recorded [FOLDER | --check] | vacuum [--check] | entropy [--check] | region5 [--check] | timing [--bars] | desk [states] (helpers, nans, log, timing without --bars and desk alone where the original crate is not at hand)");
             ExitCode::from(2)
         }
     }

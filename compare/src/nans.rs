@@ -1,5 +1,6 @@
 //! NaN with every bit of the payload, and the other doubles that are strange, in each place of an input of every public call: each comes back bit for bit, refused in document 01's order.
 
+use crate::by_log::ByLog;
 use crate::climboat::{Pair, Record, LARGEST_LIMIT};
 use crate::draw::Draw;
 use crate::question::{Question, LINES, PAIRS, REGIONS};
@@ -13,7 +14,7 @@ const INFINITE: u64 = 0x7ff << 52;
 const QUIET: u64 = 1 << 51;
 
 /// Regions and properties of (p,T) that name nothing, beside the twenty-one that do.
-const NOTHING_NAMED: [(u32, u32); 7] = [(0, 1), (3, 7), (u32::MAX, 4), (1, 0), (2, 8), (1, u32::MAX), (0, 0)];
+pub const NOTHING_NAMED: [(u32, u32); 7] = [(0, 1), (3, 7), (u32::MAX, 4), (1, 0), (2, 8), (1, u32::MAX), (0, 0)];
 
 /// The number that refuses an input of a kind which is nearer to zero than every normal double, first and second; 0 where none does. A volume must be above zero.
 const BELOW: [[u32; 2]; 9] = [[3, 2], [2, 0], [3, 0], [2, 0], [3, 0], [3, 4], [2, 4], [2, 0], [2, 0]];
@@ -22,20 +23,22 @@ const BELOW: [[u32; 2]; 9] = [[3, 2], [2, 0], [3, 0], [2, 0], [3, 0], [3, 4], [2
 pub fn compare() -> bool {
     let (nans, others) = (nans(), others());
     let mut tally = Tally::new("NaN and other strange inputs");
+    let mut by_log = ByLog::new("NaN and other strange inputs by (p,T), by the log");
     let listed: Vec<u64> = nans.iter().chain(&others).copied().collect();
     // beside each in the other place one from the far end of the list
     for (&x, &y) in listed.iter().zip(listed.iter().rev()) {
-        meet(&mut tally, x, y);
+        meet(&mut tally, &mut by_log, x, y);
     }
     let mut draw = Draw::new(0x0c1b_0a70_0000_0044);
     for _ in 0..DRAWN {
-        meet(&mut tally, draw.bits() | INFINITE, draw.bits() | INFINITE);
+        meet(&mut tally, &mut by_log, draw.bits() | INFINITE, draw.bits() | INFINITE);
     }
-    tally.told(&format!(", every column bit for bit; {} NaN by their payload, {DRAWN} pairs drawn, {} infinities, zeros and subnormals", nans.len(), others.len()))
+    let good = tally.told(&format!(", every column bit for bit; {} NaN by their payload, {DRAWN} pairs drawn, {} infinities, zeros and subnormals", nans.len(), others.len()));
+    good & by_log.told()
 }
 
 /// Both signs of NaN, quiet and signalling, whose payload is one bit, two bits, all ones (the largest), or, of a quiet one, none (the least).
-fn nans() -> Vec<u64> {
+pub fn nans() -> Vec<u64> {
     let bits = (0..51).map(|n| 1 << n);
     let mut payloads: Vec<u64> = bits.clone().flat_map(|one| bits.clone().filter(move |&other| other <= one).map(move |other| one | other)).collect();
     payloads.push(QUIET - 1);
@@ -45,7 +48,7 @@ fn nans() -> Vec<u64> {
 }
 
 /// Both signs of infinity, of zero, and of subnormals with one bit and with all.
-fn others() -> Vec<u64> {
+pub fn others() -> Vec<u64> {
     let subnormals = (0..52).map(|n| 1 << n).chain([(1 << 52) - 1]);
     [INFINITE, 0].into_iter().chain(subnormals).flat_map(both_signs).collect()
 }
@@ -54,7 +57,7 @@ fn both_signs(bits: u64) -> [u64; 2] {
     [bits, bits | SIGN]
 }
 
-fn meet(tally: &mut Tally, x: u64, y: u64) {
+fn meet(tally: &mut Tally, by_log: &mut ByLog, x: u64, y: u64) {
     for question in questions(f64::from_bits(x), f64::from_bits(y)) {
         let ours = question.climboat();
         let owed = match refusal(&question) {
@@ -62,6 +65,7 @@ fn meet(tally: &mut Tally, x: u64, y: u64) {
             None => searched(&question, ours),
         };
         tally.check(ours.same(&owed), || format!("{}: {ours:?}, its inputs {:016x} {:016x}; owed {owed:?}", question.digits(), ours.first.to_bits(), ours.second.to_bits()));
+        by_log.ask(&question, &owed);
     }
 }
 

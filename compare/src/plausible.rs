@@ -1,8 +1,14 @@
 //! Plausible inputs of the public calls: over the ranges and around them, at their limits, and targets of real states.
+// without the original crate states alone are drawn, and no targets
+#![cfg_attr(not(feature = "original"), allow(dead_code))]
 
-use crate::climboat::{self, Pair, LARGEST_LIMIT, VESSELS_LIMIT};
+use crate::climboat::{self, LARGEST_LIMIT, VESSELS_LIMIT};
 use crate::draw::Draw;
-use crate::table::{Search, SEARCHES};
+#[cfg(feature = "original")]
+use crate::{
+    climboat::Pair,
+    table::{Search, SEARCHES},
+};
 
 /// Where document 01's ranges, boundaries and brackets change; the last is where region 1 (p,v) has an empty bracket.
 pub const PRESSURES: [f64; 9] = [1.0e-8, 0.000611212677, 0.000611212677444, 0.000611213, 16.52916425260451, 16.5291643, 22.064, 100.0, 6.112126774443457e-4];
@@ -31,7 +37,7 @@ pub fn magnitude(draw: &mut Draw, low: f64, high: f64) -> f64 {
     f64::from_bits(low.to_bits() + draw.below(high.to_bits() - low.to_bits() + 1))
 }
 
-fn one_of<T: Copy>(draw: &mut Draw, list: &[T]) -> T {
+pub fn one_of<T: Copy>(draw: &mut Draw, list: &[T]) -> T {
     list[draw.below(list.len() as u64) as usize]
 }
 
@@ -46,9 +52,19 @@ pub fn pressure(draw: &mut Draw) -> f64 {
         6 => 0.000611212677444 * (1.0 + magnitude(draw, 1.0e-16, 1.0e-8)),
         _ => {
             let t = draw.between(273.15, 863.15);
-            let boundary = if t <= 623.15 { climboat::saturation_pressure(t) } else { climboat::b23_pressure(t) };
-            beside(draw, boundary)
+            beside(draw, boundary(t))
         }
+    }
+}
+
+/// Where region 2 stops at t.
+pub fn boundary(t: f64) -> f64 {
+    if t <= 623.15 {
+        climboat::saturation_pressure(t)
+    } else if t <= 863.15 {
+        climboat::b23_pressure(t)
+    } else {
+        100.0
     }
 }
 
@@ -103,6 +119,7 @@ pub fn temperature_5(draw: &mut Draw) -> f64 {
 }
 
 /// Of every four, three in the range of what is fixed.
+#[cfg(feature = "original")]
 pub fn fixed(draw: &mut Draw, search: &Search) -> f64 {
     let (low, high) = search.range().into_inner();
     match draw.below(4) {
@@ -115,6 +132,7 @@ pub fn fixed(draw: &mut Draw, search: &Search) -> f64 {
 }
 
 /// Mostly v, h or s of a point of the bracket or of an end, else one that is tiny, of its magnitude, or any.
+#[cfg(feature = "original")]
 pub fn target(draw: &mut Draw, search: &Search, fixed: f64) -> f64 {
     let (lower, upper) = (search.ends)(fixed);
     let target = match draw.below(16) {
@@ -140,6 +158,7 @@ pub fn target(draw: &mut Draw, search: &Search, fixed: f64) -> f64 {
 }
 
 /// The two doubles of a pair, or a state.
+#[cfg(feature = "original")]
 pub fn pair(draw: &mut Draw) -> (f64, f64) {
     match draw.below(16) as usize {
         n if n < SEARCHES.len() => {
@@ -159,5 +178,15 @@ pub fn limit(draw: &mut Draw) -> u32 {
         12 => draw.below(64) as u32,
         13 => (draw.bits() as u32) >> draw.below(32),
         _ => VESSELS_LIMIT,
+    }
+}
+
+/// A number of any size that names nothing: one that does is raised by the largest that does.
+pub fn unknown(draw: &mut Draw, known: &[u32]) -> u32 {
+    let any = draw.bits() as u32 >> draw.below(32);
+    if known.contains(&any) {
+        any + known[known.len() - 1]
+    } else {
+        any
     }
 }

@@ -19,6 +19,8 @@ pub const PAIRS: [Pair; 4] = [Pair::Pv, Pair::Tv, Pair::Th, Pair::Ts];
 pub const REGIONS: [u32; 3] = [1, 2, 5];
 pub const PV_REGIONS: [u32; 2] = [1, 2];
 
+pub const PROPERTIES: [u32; 7] = [1, 2, 3, 4, 5, 6, 7];
+
 impl Question {
     #[inline]
     pub fn climboat(&self) -> Record {

@@ -1,5 +1,6 @@
 //! The recorded answers: questions for the program `replay`, and what the second reading of the table over the test copy answers to each.
 
+use crate::by_log::ByLog;
 use crate::climboat::{Line, Pair, Record, EXACT_END, INSIDE, LARGEST_LIMIT, SMALL_RESIDUAL, VALUE, VESSELS_LIMIT};
 use crate::draw::Draw;
 use crate::patience::enough;
@@ -48,7 +49,7 @@ const BROKEN: [&str; 5] = [
     "01 1 1 00000 4008000000000000 4072c0000000000",
 ];
 
-/// `compare recorded` prints both files, with a folder it writes them there, with --check it compares them with those that are kept.
+/// `compare recorded` prints both files, with a folder it writes them there, with --check it compares them with those that are kept, and asks those by (p,T) by the log.
 pub fn command(words: &[&str]) -> bool {
     let questions = questions();
     let mut stdin: String = questions.iter().map(|question| question.digits() + "\n").collect();
@@ -62,7 +63,7 @@ pub fn command(words: &[&str]) -> bool {
             print!("{stdin}{stdout}");
             true
         }
-        ["--check"] => check("stdin", &stdin) & check("stdout", &stdout),
+        ["--check"] => check("stdin", &stdin) & check("stdout", &stdout) & asked_by_log(&questions),
         [folder] => write(folder, "stdin", &stdin) & write(folder, "stdout", &stdout),
         _ => {
             eprintln!("usage: compare recorded [FOLDER | --check]");
@@ -100,6 +101,13 @@ fn check(name: &str, made: &str) -> bool {
     let [old, new] = [old, new].map(|lines| lines.get(line).map_or("no line", |line| *line).to_string());
     println!("recorded: {path} differs first in line {}: kept {old:?}, made {new:?}", line + 1);
     false
+}
+
+/// `replay` has no line for a log; what it answers to a line by (p,T) is what a place holds.
+fn asked_by_log(questions: &[Question]) -> bool {
+    let mut by_log = ByLog::new("recorded questions by (p,T), by the log");
+    questions.iter().for_each(|question| by_log.ask(question, &question.table()));
+    by_log.told()
 }
 
 /// A record as the programs write an answer.

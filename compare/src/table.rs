@@ -54,8 +54,13 @@ pub fn property(region: u32, property: u32, p: f64, t: f64) -> Record {
     let Some(function) = (property as usize).checked_sub(1).and_then(|n| properties.get(n)) else {
         return refused(21);
     };
+    checked(region, p, t, function)
+}
+
+/// The (p,T) rule of a region, and what a formula gives at a state inside.
+pub fn checked(region: u32, p: f64, t: f64, formula: impl Fn(f64, f64) -> f64) -> Record {
     match state(region, p, t) {
-        0 => value(function(p, t)),
+        0 => value(formula(p, t)),
         number => refused(number),
     }
 }

@@ -15,10 +15,15 @@ impl Tally {
     pub fn check(&mut self, same: bool, inputs: impl FnOnce() -> String) {
         self.tried += 1;
         if !same {
-            self.differ += 1;
-            if self.differ <= 5 {
-                println!("  {} differs at {}", self.what, inputs());
-            }
+            self.differs(inputs);
+        }
+    }
+
+    /// A difference that is not of one input.
+    pub fn differs(&mut self, told: impl FnOnce() -> String) {
+        self.differ += 1;
+        if self.differ <= 5 {
+            println!("  {} differs at {}", self.what, told());
         }
     }
 

@@ -1,11 +1,13 @@
-//! Timings against the original crate's and Rust's own, and of the public calls against the formulas in them, as ratios from one run: medians of nine passes.
+//! Timings against the original crate's and Rust's own, of the public calls against the formulas in them, and of logs against single calls, as ratios from one run: medians of nine passes.
 
 use crate::bars::{self, Bars, TimeBar};
+use crate::by_log::LONGEST_LOG;
 use crate::climboat::{self, Line, Pair, VESSELS_LIMIT};
 use crate::draw::Draw;
 #[cfg(feature = "original")]
 use crate::pairs::{Search, LIMIT, SEARCHES};
 use crate::question::{PV_REGIONS, REGIONS};
+use std::cell::RefCell;
 use std::hint::black_box;
 use std::time::Instant;
 
@@ -72,9 +74,9 @@ fn barred_head(what: &str, theirs: &str) {
 }
 
 #[cfg(feature = "original")]
-const TABLES: &[fn(&mut Bars)] = &[asked, |_| crate::door::table(), helpers, |_| calls(), properties, saturation_line, searches, |_| crate::bound::tables(), |_| crate::many::table()];
+const TABLES: &[fn(&mut Bars)] = &[asked, |_| crate::door::table(), helpers, |_| calls(), logs, properties, saturation_line, searches, |_| crate::bound::tables(), |_| crate::many::table()];
 #[cfg(not(feature = "original"))]
-const TABLES: &[fn(&mut Bars)] = &[helpers, |_| calls()];
+const TABLES: &[fn(&mut Bars)] = &[helpers, |_| calls(), logs];
 
 /// Prints every table, and gives the bars that their rows were held against.
 pub fn tables() -> Bars {
@@ -179,6 +181,47 @@ const PROPERTIES: [(u32, u32, &str, fn(f64, f64) -> f64); 12] = [
     (5, 4, "h", climboat::region5_h),
     (5, 7, "w", climboat::region5_w),
 ];
+
+/// Logs of the same states in a pass, so that it takes some milliseconds.
+const LOGS: [(); 50] = [(); 50];
+
+/// One call over the longest log, against single calls that put their value and number into the same two runs; also where every place is refused.
+fn logs(bars: &mut Bars) {
+    println!("| log of 4,096 places | per place | single call | ratio | bar |");
+    println!("|---|---|---|---|---|");
+    let states = states();
+    for (region, property, name, _) in PROPERTIES {
+        log(bars, &format!("region {region} {name}"), (region, property), &states[place(region)][..LONGEST_LOG], 0);
+    }
+    let mut draw = Draw::new(0x0c1b_0a70_0000_000e);
+    let steam: States = (0..LONGEST_LOG).map(|_| (draw.logarithmic(1.0e-8, 0.0006), draw.between(273.15, 623.15))).collect();
+    let no_number: States = steam.iter().map(|&(_, t)| (f64::NAN, t)).collect();
+    log(bars, "region 1 v, every place refused by 3", (1, 1), &steam, 3);
+    log(bars, "region 1 v, every place refused by 1", (1, 1), &no_number, 1);
+}
+
+/// A row of the logs, over states at all of which the single call gives this number.
+fn log(bars: &mut Bars, what: &str, (region, property): (u32, u32), states: &[(f64, f64)], number: u32) {
+    assert!(states.iter().all(|&(p, t)| climboat::property(region, property, p, t).number == number), "{what}: a state with another number than {number}");
+    let (p, t): (Vec<f64>, Vec<f64>) = states.iter().copied().unzip();
+    let runs = RefCell::new((vec![0.0; states.len()], vec![0; states.len()]));
+    let logged = |_: &()| {
+        let (values, numbers) = &mut *runs.borrow_mut();
+        f64::from(climboat::log(region, property, &p, &t, values, numbers))
+    };
+    assert!(logged(&()) == 0.0, "{what}: a log that is not filled");
+    let one_by_one = |_: &()| {
+        let (values, numbers) = &mut *runs.borrow_mut();
+        for (place, (&p, &t)) in p.iter().zip(&t).enumerate() {
+            (numbers[place], values[place]) = climboat::number_and_value(region, property, p, t);
+        }
+        0.0
+    };
+    let places = states.len() as f64;
+    let [of_log, of_single] = medians([&mut || pass(&LOGS, logged), &mut || pass(&LOGS, one_by_one)]).map(|time| time / places);
+    let ratio = of_log / of_single;
+    println!("| {what} | {of_log:.1} ns | {of_single:.1} ns | {ratio:.2} |{}", bars.keep(&format!("log of 4,096 places, {what}"), ratio, bars::LOG));
+}
 
 /// A row of the searches, over those of the states that they find.
 fn search(pair: Pair, region: u32, name: &str, states: &[(f64, f64)]) {

@@ -49,6 +49,28 @@ static void door_check(double p, double v)
     }
 }
 
+/* Three readings of a log in one call, as water: water; steam, since the pressure is below saturation; and a sensor that gave no number. What is refused costs its own place alone. */
+static void tell_log(void)
+{
+    static const double p[] = {0.2, 0.1, NAN}, T[] = {354.7, 400.0, 354.9};
+    double values[3];
+    uint32_t numbers[3];
+    size_t k;
+    uint32_t number = climboat_pT_log(CLIMBOAT_REGION_1, CLIMBOAT_VOLUME, p, 3, T, 3, values, 3, numbers, 3);
+    if (number != CLIMBOAT_ANSWERED) {
+        printf("the log, refused by %u, %s\n", (unsigned)number, climboat_sentence(number));
+        return;
+    }
+    for (k = 0; k < 3; k++) {
+        printf("place %u of the log, region 1, p = %.17g MPa, T = %.17g K: v", (unsigned)k, p[k], T[k]);
+        if (numbers[k] == CLIMBOAT_ANSWERED) {
+            printf(" = %.17g m^3/kg\n", values[k]);
+        } else {
+            printf(", refused by %u, %s\n", (unsigned)numbers[k], climboat_sentence(numbers[k]));
+        }
+    }
+}
+
 int main(void)
 {
     uint32_t property;
@@ -71,5 +93,6 @@ int main(void)
     tell(climboat_pT(3, CLIMBOAT_VOLUME, 3.0, 300.0));
     tell(climboat_pT(CLIMBOAT_REGION_1, 8, 3.0, 300.0));
     tell(climboat_Tv2p(CLIMBOAT_REGION_1, 300.0, 0.001, CLIMBOAT_LARGEST_STEP_LIMIT + 1));
+    tell_log();
     return 0;
 }

@@ -120,7 +120,18 @@ impl Reading {
     }
 }
 
-/// Why there is no answer: document 01's refusals, and one of the interface.
+/// Why there is no answer: the refusals of documents 01 and 02, and one of the interface.
+///
+/// The places of a log hold numbers: [`Cause::of`] names one.
+///
+/// ```
+/// use climboat::Cause;
+///
+/// assert_eq!(Cause::of(3), Some(Cause::PressureOutOfRange));
+/// assert!(Cause::PressureOutOfRange.sentence().starts_with("the pressure is out of range"));
+/// assert_eq!(Cause::of(0), None); // answered
+/// assert_eq!(Cause::of(99), Some(Cause::Unknown));
+/// ```
 #[non_exhaustive]
 #[derive(Clone, Copy, Debug, PartialEq, Eq, Hash)]
 pub enum Cause {
@@ -146,6 +157,8 @@ pub enum Cause {
     PointOutside,
     /// 11: the step limit is above [`crate::LARGEST_STEP_LIMIT`], 65,535.
     LimitTooLarge,
+    /// 13: the four runs of a log have not one length, or one above [`crate::LONGEST_LOG`], 4,096.
+    LogLengths,
     /// 21: a region or property number names none that this call has. Of this crate's calls only [`crate::search`] can meet it: (p,v) has no region 5.
     NothingNamed,
     /// A number that this version has no name for.
@@ -170,7 +183,7 @@ const fn row(number: u32, cause: Cause, bracket: bool, sentence: &'static str) -
 }
 
 #[rustfmt::skip]
-const ROWS: [Row; 12] = [
+const ROWS: [Row; 13] = [
     row(1, Cause::NotFinite, false, "an input is NaN or infinite; give finite numbers"),
     row(2, Cause::TemperatureOutOfRange, false, "the temperature is out of range for this region or line; check that it is in kelvin and that the region is the right one"),
     row(3, Cause::PressureOutOfRange, false, "the pressure is out of range for this region or line, or for this region at this temperature; check that it is in MPa and that the region is the right one"),
@@ -182,8 +195,29 @@ const ROWS: [Row; 12] = [
     row(9, Cause::ResultNotFinite, false, "a property, saturation or B23 result is not finite, so there is no number to give; ask for another state"),
     row(10, Cause::PointOutside, true, "the next point of the search lies outside its bracket, so it cannot go on; the bracket is as far as it came, ask for the state by another pair"),
     row(11, Cause::LimitTooLarge, false, "the step limit is above 65,535; give one from 0 to 65,535"),
+    row(13, Cause::LogLengths, false, "the four runs of a log have not one length, or one above 4,096; give runs of one length, and a longer log in runs of 4,096"),
     row(21, Cause::NothingNamed, false, "the region or the property is not one that this call has; name another: (p,v) has regions 1 and 2 alone"),
 ];
+
+impl Cause {
+    /// The cause that a number stands for; nothing for 0, which is no refusal.
+    pub fn of(number: u32) -> Option<Cause> {
+        let row = ROWS.iter().find(|row| row.number == number);
+        (number != 0).then_some(row.map_or(Cause::Unknown, |row| row.cause))
+    }
+
+    fn row(self) -> Option<&'static Row> {
+        ROWS.iter().find(|row| row.cause == self)
+    }
+
+    /// What it means, and what to do: a `; ` is between them.
+    pub fn sentence(self) -> &'static str {
+        self.row().map_or(
+            "this version has no sentence for this number; see the table of refusals",
+            |row| row.sentence,
+        )
+    }
+}
 
 /// No answer: the refusal's number, what it is of, and where the search was when it gave up.
 ///
@@ -203,9 +237,9 @@ const ROWS: [Row; 12] = [
 #[non_exhaustive]
 #[derive(Clone, Copy, Debug, PartialEq)]
 pub struct Refusal {
-    /// What the refusal is of.
+    /// What the refusal is of. 13 is of a log and of no place in it: both inputs are 0.
     pub asked: Asked,
-    /// The number of document 01's table, or 21.
+    /// The number of document 01's table, 13, or 21.
     pub number: u32,
     /// The last point for 8, else 0.
     pub value: f64,
@@ -216,26 +250,19 @@ pub struct Refusal {
 }
 
 impl Refusal {
-    fn row(&self) -> Option<&'static Row> {
-        ROWS.iter().find(|row| row.number == self.number)
-    }
-
     /// The number by name.
     pub fn cause(&self) -> Cause {
-        self.row().map_or(Cause::Unknown, |row| row.cause)
+        Cause::of(self.number).unwrap_or(Cause::Unknown)
     }
 
     /// What the number means, and what to do.
     pub fn sentence(&self) -> &'static str {
-        self.row().map_or(
-            "this version has no sentence for this number; see the table of refusals",
-            |row| row.sentence,
-        )
+        self.cause().sentence()
     }
 
     /// Whether the refusal carries the steps taken and the last bracket.
     pub fn has_bracket(&self) -> bool {
-        self.row().is_some_and(|row| row.bracket)
+        self.cause().row().is_some_and(|row| row.bracket)
     }
 
     /// The last point, which is no answer, where the steps are spent.
@@ -248,7 +275,12 @@ impl fmt::Display for Refusal {
     fn fmt(&self, f: &mut fmt::Formatter<'_>) -> fmt::Result {
         let (asked, wanted, bracket) = (self.asked, self.asked.wanted(), self.bracket);
         write!(f, "refused by {}: {}", self.number, self.sentence())?;
-        write!(f, "; of {asked}, where {} was asked for", wanted.symbol)?;
+        // a log is refused whole, and of no place: it has no inputs to show
+        let of = match self.cause() {
+            Cause::LogLengths => format!("a log of {}", asked.place()),
+            _ => asked.to_string(),
+        };
+        write!(f, "; of {of}, where {} was asked for", wanted.symbol)?;
         if self.has_bracket() {
             write!(f, "; steps {}", self.steps)?;
             let (lower, upper) = (bracket.lower, bracket.upper);
@@ -320,9 +352,15 @@ mod tests {
         record.read().unwrap_err()
     }
 
+    /// Every number that has a name.
+    fn numbers() -> Vec<u32> {
+        (1..=11).chain([13, 21]).collect()
+    }
+
     #[test]
     fn every_number_of_the_table_has_its_own_cause_and_sentence() {
-        let numbers: Vec<u32> = (1..=11).chain([21]).collect();
+        let numbers = numbers();
+        assert_eq!(numbers.len(), ROWS.len());
         for &number in &numbers {
             assert_ne!(refusal(number).cause(), Cause::Unknown, "{number}");
             for &other in numbers.iter().filter(|&&other| other != number) {
@@ -342,8 +380,9 @@ mod tests {
 
     #[test]
     fn a_number_that_is_not_named_yet_is_still_a_refusal() {
-        for number in [12, 13, 14, 20, u32::MAX] {
+        for number in [12, 14, 20, 22, u32::MAX] {
             assert_eq!(refusal(number).cause(), Cause::Unknown);
+            assert_eq!(Cause::of(number), Some(Cause::Unknown));
             assert!(refusal(number)
                 .to_string()
                 .starts_with(&format!("refused by {number}: ")));
@@ -351,10 +390,24 @@ mod tests {
     }
 
     #[test]
+    fn a_cause_is_named_by_its_number_as_a_refusal_is() {
+        assert_eq!(Cause::of(0), None);
+        for number in numbers().into_iter().chain([12, u32::MAX]) {
+            let cause = Cause::of(number).unwrap();
+            assert_eq!(cause, refusal(number).cause(), "{number}");
+            assert_eq!(cause.sentence(), refusal(number).sentence(), "{number}");
+        }
+    }
+
+    #[test]
     fn what_it_is_of_is_shown_behind_the_sentence() {
-        for number in (1..=11).chain([21]) {
+        for number in numbers() {
             let start = format!("refused by {number}: {}", refusal(number).sentence());
-            let of = "; of region 2, T = 500.0 K, s = 7.2 kJ/(kg K), where p was asked for";
+            let of = match number {
+                // of no place, so without inputs
+                13 => "; of a log of region 2, where p was asked for",
+                _ => "; of region 2, T = 500.0 K, s = 7.2 kJ/(kg K), where p was asked for",
+            };
             let shown = refusal(number).to_string();
             assert!(shown.starts_with(&(start + of)), "{shown}");
             // in a line of a log this is where it begins
@@ -364,7 +417,7 @@ mod tests {
 
     #[test]
     fn steps_bracket_and_residuals_are_shown_where_the_table_gives_them() {
-        for number in (1..=11).chain([21]) {
+        for number in numbers() {
             let shown = refusal(number).to_string();
             let rest = match number {
                 6 | 10 => "; steps 3, bracket 1.0 to 2.0 MPa, residuals 0.25 and -0.5 kJ/(kg K)",

@@ -1,4 +1,4 @@
-//! The archive's nine calls, each wrapped once. All `unsafe` of the crate stands here.
+//! The archive's nine calls and its log, each wrapped once. All `unsafe` of the crate stands here.
 #![allow(unsafe_code)]
 
 /// What a call writes, the columns of documents 01 and 02: number, reason, steps, mark, region, kind, property;
@@ -34,6 +34,48 @@ calls! {
     tv2p = climboat_Tv2p_columns(region: u32, t: f64, v: f64, limit: u32);
     th2p = climboat_Th2p_columns(region: u32, t: f64, h: f64, limit: u32);
     ts2p = climboat_Ts2p_columns(region: u32, t: f64, s: f64, limit: u32);
+}
+
+#[allow(non_snake_case)]
+extern "C" {
+    fn climboat_pT_log_runs(
+        region: u32,
+        property: u32,
+        p: *const f64,
+        p_length: usize,
+        t: *const f64,
+        t_length: usize,
+        values: *mut f64,
+        values_length: usize,
+        numbers: *mut u32,
+        numbers_length: usize,
+    ) -> u32;
+}
+
+/// Fills values and numbers with a property at every (p,T), and gives 0; or writes nothing, and gives the number of the refusal.
+pub fn property_log(
+    region: u32,
+    property: u32,
+    p: &[f64],
+    t: &[f64],
+    values: &mut [f64],
+    numbers: &mut [u32],
+) -> u32 {
+    // SAFETY: each pointer is a slice's, with that slice's length: not null, and none of the written ones shares memory with another; the call keeps none of them
+    unsafe {
+        climboat_pT_log_runs(
+            region,
+            property,
+            p.as_ptr(),
+            p.len(),
+            t.as_ptr(),
+            t.len(),
+            values.as_mut_ptr(),
+            values.len(),
+            numbers.as_mut_ptr(),
+            numbers.len(),
+        )
+    }
 }
 
 #[cfg(test)]
@@ -96,6 +138,22 @@ mod tests {
                 record.doubles,
                 [0.0, 0.0, 0.0, 0.0, 0.0, first, second, 0.0]
             );
+        }
+    }
+
+    #[test]
+    fn a_log_that_names_nothing_is_refused_by_21_before_its_lengths_are_looked_at() {
+        for (region, property) in [(0, 1), (3, 1), (u32::MAX, 7), (1, 0), (5, 8), (4, 9)] {
+            for lengths in [[2, 2, 2, 2], [0, 0, 0, 0], [1, 2, 2, 2], [2, 2, 2, 1]] {
+                let [p, t, values, numbers] = lengths;
+                let (mut values, mut numbers) = (vec![-1.0; values], vec![99; numbers]);
+                let (p, t) = (vec![3.0; p], vec![300.0; t]);
+                let number = property_log(region, property, &p, &t, &mut values, &mut numbers);
+                assert_eq!(number, 21, "{region} {property} {lengths:?}");
+                let unwritten =
+                    values.iter().all(|&x| x == -1.0) && numbers.iter().all(|&n| n == 99);
+                assert!(unwritten, "{region} {property} {lengths:?}");
+            }
         }
     }
 }

@@ -194,14 +194,18 @@ impl Asked {
     /// # Ok::<(), climboat::Refusal>(())
     /// ```
     pub fn words(&self, double: impl Fn(f64) -> String) -> String {
-        let place = match self.region {
-            Some(region) => format!("region {}", region.number()),
-            None => self.kind.place().to_string(),
-        };
         let inputs = self.kind.inputs().iter().zip([self.first, self.second]);
         let inputs =
             inputs.map(|(input, x)| format!(", {} = {} {}", input.symbol, double(x), input.unit));
-        std::iter::once(place).chain(inputs).collect()
+        std::iter::once(self.place()).chain(inputs).collect()
+    }
+
+    /// Where it asks: the region, or the line of the release.
+    pub(crate) fn place(&self) -> String {
+        match self.region {
+            Some(region) => format!("region {}", region.number()),
+            None => self.kind.place().to_string(),
+        }
     }
 }
 
@@ -222,6 +226,16 @@ impl PartialEq for Asked {
 impl Eq for Asked {}
 
 impl Record {
+    /// The record of a log that came back with this number. It is of (p,T), and of no place: it has no inputs.
+    pub fn of_log(number: u32, region: Region, property: Property) -> Record {
+        let [region, property] = [region.number(), property.number()];
+        let kind = Kind::PT.number();
+        Record {
+            numbers: [number, 0, 0, 0, region, kind, property, 0],
+            ..Record::default()
+        }
+    }
+
     /// What the record is of.
     pub fn asked(&self) -> Asked {
         let [.., region, kind, property, _] = self.numbers;

@@ -1,6 +1,7 @@
 //! Climboat for Rust: properties of water and steam by IAPWS-IF97, regions 1, 2 and 5, the saturation line and B23, or a refusal by number.
 //!
-//! Every call is one call of Climboat's proved archive. It takes any doubles and any step limit, and answers a [`Reading`] or a [`Refusal`]; it never panics.
+//! Every call is one call of Climboat's proved archive. It takes any doubles and any step limit, and answers a [`Reading`] or a [`Refusal`]; it never panics. A whole log goes in one call of
+//! [`property_log`], or of [`property_long_log`], which makes as many of the archive's as the log is long.
 //! Units: MPa, K, m^3/kg, kJ/kg, kJ/(kg K), m/s. The caller always names the region.
 //!
 //! This holds in IEEE 754's default floating-point environment, which Rust takes for granted: exceptions masked, rounding to nearest, subnormals kept.
@@ -67,6 +68,9 @@ pub const STEP_LIMIT: u32 = 20_000;
 /// ```
 pub const LARGEST_STEP_LIMIT: u32 = 65_535;
 
+/// The most places that [`property_log`] fills in one call. A longer log is refused by 13; [`property_long_log`] takes any.
+pub const LONGEST_LOG: usize = 4_096;
+
 /// A property of the named region at p and T.
 ///
 /// ```
@@ -78,6 +82,77 @@ pub const LARGEST_STEP_LIMIT: u32 = 65_535;
 /// ```
 pub fn property(region: Region, property: Property, p: f64, t: f64) -> Result<Reading, Refusal> {
     archive::property(region.number(), property.number(), p, t).read()
+}
+
+/// A property of the named region at every p and T of a log, in one call of the archive.
+///
+/// `values` and `numbers` are filled with what [`property`] gives at each place: the value, 0 where it is refused, and the number of the refusal, 0 where it is answered. No refusal stops the
+/// rest, and none is an error here: [`Cause::of`] names a place's number. The four lengths must be one, and at most [`LONGEST_LOG`]; else nothing is written, and the log is refused by 13. A log
+/// without a place is filled.
+///
+/// ```
+/// use climboat::{property_log, Cause, Property, Region};
+///
+/// let (p, t) = ([3.0, 0.1, f64::NAN], [300.0, 400.0, 300.0]);
+/// let (mut values, mut numbers) = ([0.0; 3], [0; 3]);
+/// property_log(Region::One, Property::Volume, &p, &t, &mut values, &mut numbers)?;
+/// assert_eq!(values, [0.0010021516796866943, 0.0, 0.0]);
+/// assert_eq!(numbers, [0, 3, 1]);
+/// let causes = [None, Some(Cause::PressureOutOfRange), Some(Cause::NotFinite)];
+/// assert_eq!(numbers.map(Cause::of), causes);
+///
+/// let refusal = property_log(Region::One, Property::Volume, &p, &t[1..], &mut values, &mut numbers).unwrap_err();
+/// assert_eq!((refusal.number, refusal.cause()), (13, Cause::LogLengths));
+/// assert!(refusal.to_string().ends_with("; of a log of region 1, where v was asked for"));
+/// # Ok::<(), climboat::Refusal>(())
+/// ```
+pub fn property_log(
+    region: Region,
+    property: Property,
+    p: &[f64],
+    t: &[f64],
+    values: &mut [f64],
+    numbers: &mut [u32],
+) -> Result<(), Refusal> {
+    let number = archive::property_log(region.number(), property.number(), p, t, values, numbers);
+    archive::Record::of_log(number, region, property)
+        .read()
+        .map(|_| ())
+}
+
+/// A property of the named region at every p and T of a log of any length, in runs of [`LONGEST_LOG`]: each place as [`property_log`] fills it.
+///
+/// The four lengths must be one; else nothing is written, and the log is refused by 13.
+///
+/// ```
+/// use climboat::{property_log, property_long_log, Property, Region};
+///
+/// let (p, t) = (vec![3.0; 86_400], vec![300.0; 86_400]); // a reading each second of a day
+/// let (mut values, mut numbers) = (vec![0.0; 86_400], vec![0; 86_400]);
+/// assert!(property_log(Region::One, Property::Volume, &p, &t, &mut values, &mut numbers).is_err());
+/// property_long_log(Region::One, Property::Volume, &p, &t, &mut values, &mut numbers)?;
+/// assert!(values.iter().all(|&v| v == 0.0010021516796866943) && numbers.iter().all(|&n| n == 0));
+/// # Ok::<(), climboat::Refusal>(())
+/// ```
+pub fn property_long_log(
+    region: Region,
+    property: Property,
+    p: &[f64],
+    t: &[f64],
+    values: &mut [f64],
+    numbers: &mut [u32],
+) -> Result<(), Refusal> {
+    if [t.len(), values.len(), numbers.len()] != [p.len(); 3] {
+        // it refuses them, and writes nothing
+        return property_log(region, property, p, t, values, numbers);
+    }
+    let asked = p.chunks(LONGEST_LOG).zip(t.chunks(LONGEST_LOG));
+    let filled = values.chunks_mut(LONGEST_LOG);
+    let filled = filled.zip(numbers.chunks_mut(LONGEST_LOG));
+    for ((p, t), (values, numbers)) in asked.zip(filled) {
+        property_log(region, property, p, t, values, numbers)?;
+    }
+    Ok(())
 }
 
 /// The pressure of the saturation line at T, from 273.15 to 647.096 K.

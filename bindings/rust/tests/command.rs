@@ -186,7 +186,7 @@ fn a_larger_limit_leaves_every_byte_of_an_answer() {
 }
 
 /// Command lines that are wrong, and what is said of them.
-const WRONG: [(&str, &str); 19] = [
+const WRONG: [(&str, &str); 30] = [
     (
         "3 pT v 3 300",
         "word 1, \"3\", is no region or line: it is one of 1, 2, 5, sat, b23",
@@ -201,7 +201,7 @@ const WRONG: [(&str, &str); 19] = [
     ),
     (
         "1 pt v 3 300",
-        "word 2, \"pt\", is no pair: it is one of pT, pv, Tv, Th, Ts",
+        "word 2, \"pt\", is no pair or log: it is one of pT, pv, Tv, Th, Ts, log",
     ),
     (
         "1 pT x 3 300",
@@ -229,6 +229,35 @@ const WRONG: [(&str, &str); 19] = [
     (
         "1 pv 3 0.001 --fast",
         "word 5, \"--fast\", is no option of a request",
+    ),
+    (
+        "1",
+        "a word is missing: a pair, pT or pv or Tv or Th or Ts, or log",
+    ),
+    ("1 log", "a word is missing: a property"),
+    (
+        "1 log q",
+        "word 3, \"q\", is no property: it is one of v, u, s, h, cp, cv, w",
+    ),
+    (
+        "1 log v day.csv",
+        "word 4, \"day.csv\", is one too many: a log comes on standard input",
+    ),
+    ("--chart 2 log h 3 300", "word 5, \"3\", is one too many"),
+    ("3 log v", "word 1, \"3\", is no region or line"),
+    ("sat log v", "word 2, \"log\", is no coordinate"),
+    (
+        "1 log v --limit 40",
+        "word 4, \"--limit\", is for a search alone",
+    ),
+    (
+        "1 pT v 3 300 --chart",
+        "word 6, \"--chart\", is for a log alone",
+    ),
+    ("--chart sat T 1", "word 1, \"--chart\", is for a log alone"),
+    (
+        "1 log v --graph",
+        "word 4, \"--graph\", is no option of a request: those are --bits, --limit, --chart",
     ),
     (
         "sat v 3",
@@ -349,6 +378,9 @@ fn help_and_nothing() {
     assert_eq!((help.status, help.err.as_str()), (0, ""));
     for word in [
         "--lines",
+        "REGION log PROPERTY",
+        "--chart",
+        "# bad line N",
         "--bits",
         "--limit",
         "--diagram",

@@ -1,12 +1,7 @@
 //! The command with --lines: an output line for each input line, whatever stands there.
 mod run;
 
-use run::{command, fed, run};
-use std::io::{BufRead, BufReader, Write};
-use std::process::Stdio;
-use std::sync::mpsc;
-use std::thread;
-use std::time::Duration;
+use run::{assert_answers_before_the_next, fed, run, unread};
 
 /// An answer of one request, as --lines has it.
 fn joined(line: &str) -> String {
@@ -112,6 +107,7 @@ fn a_bad_line_is_named_and_stops_nothing() {
         b"--help\n",
         b"--lines\n",
         b"5 pv 0.5 1.3845\n",
+        b"1 log v\n",
         b"sat T 1",
     ]
     .concat();
@@ -124,6 +120,7 @@ fn a_bad_line_is_named_and_stops_nothing() {
         "bad line 4: word 1, \"--help\", is no option of a request",
         "bad line 5: word 1, \"--lines\", is no option of a request",
         "bad line 6: word 2, \"pv\", is no pair of this region: region 5 has no (p,v); regions 1 and 2 have it",
+        "bad line 7: a log is asked for on the command line, not on a line of --lines",
     ];
     for (line, start) in lines.iter().zip(bad) {
         assert!(line.starts_with(start), "{line}");
@@ -173,47 +170,12 @@ fn bits_for_all_lines_or_for_one() {
 
 #[test]
 fn an_answer_comes_before_the_next_question() {
-    let mut child = command()
-        .arg("--lines")
-        .stdin(Stdio::piped())
-        .stdout(Stdio::piped())
-        .spawn()
-        .unwrap();
-    let mut asks = child.stdin.take().unwrap();
-    let out = BufReader::new(child.stdout.take().unwrap());
-    let (tell, told) = mpsc::channel();
-    let reader = thread::spawn(move || {
-        out.lines()
-            .for_each(|line| tell.send(line.unwrap()).unwrap());
-    });
-    for question in ["sat T 1", "sat p 500"] {
-        writeln!(asks, "{question}").unwrap();
-        // one that keeps its answer back would never give it
-        let answer = told.recv_timeout(Duration::from_secs(20));
-        assert_eq!(answer, Ok(joined(question)));
-    }
-    drop(asks);
-    assert!(child.wait().unwrap().success());
-    reader.join().unwrap();
+    let exchanges = ["sat T 1", "sat p 500"].map(|question| (question, joined(question)));
+    assert_answers_before_the_next("--lines", &exchanges);
 }
 
 #[test]
 fn a_reader_that_goes_away_ends_it_quietly() {
-    let mut child = command()
-        .arg("--lines")
-        .stdin(Stdio::piped())
-        .stdout(Stdio::piped())
-        .stderr(Stdio::piped())
-        .spawn()
-        .unwrap();
-    drop(child.stdout.take());
-    let mut asks = child.stdin.take().unwrap();
-    // it may end before all is asked
-    let _ = asks.write_all("sat T 1\n".repeat(20_000).as_bytes());
-    drop(asks);
-    let output = child.wait_with_output().unwrap();
-    assert_eq!(
-        (output.status.code(), output.stderr.as_slice()),
-        (Some(0), b"".as_slice())
-    );
+    let run = unread("--lines", "sat T 1\n".repeat(20_000).as_bytes());
+    assert_eq!((run.status, run.err.as_str()), (0, ""));
 }

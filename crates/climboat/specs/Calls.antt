@@ -6,6 +6,7 @@ use Rattle.vessel.specs.Asked.{atState, ofPair}
 use Rattle.vessel.specs.Answer.{refused}
 use Rattle.vessel.specs.Calls as calls
 use Rattle.vessel.specs.Searches as searches
+use Rattle.vessel.specs.Log.{Runs, Logged, unwritten, log}
 use Rattle.vessel.specs.declared.asked.Asked.{Asked}
 use Rattle.vessel.specs.declared.asked.Kind.the-variants.{Pv, Tv, Th, Ts}
 use Rattle.vessel.specs.declared.asked.NamedRegion.{NamedRegion}
@@ -41,6 +42,15 @@ unfoldable pub pT : ℕ → ℕ → Float → Float → Answer
 pT region property p T =
     let a = atState (regionNamed region) (propertyNamed property) p T in
     inRegion (regionNamed region) a (λ r. ofProperty (propertyNamed property) a (λ q. calls.property r q p T))
+
+-- a log: of numbers that name something the vessel's; else 21 comes back and both runs are what they were, whatever their lengths
+unfoldable pub named-log : NamedRegion → NamedProperty → Runs → Logged
+named-log (Names r) (Names'' q) runs = log r q runs
+named-log (Names r) Nothing'' runs = unwritten 21 runs
+named-log Nothing q runs = unwritten 21 runs
+
+unfoldable pub pT-log : ℕ → ℕ → Runs → Logged
+pT-log region property runs = named-log (regionNamed region) (propertyNamed property) runs
 
 unfoldable pub pv2T : ℕ → Float → Float → ℕ → Answer
 pv2T region p v limit = inPvRegion (pvRegionNamed region) (ofPair Pv Nothing p v) (λ r. searches.pv2T r p v limit)

@@ -1,6 +1,7 @@
 // The vessel's calls by number: a region or property number that names nothing is refused by 21 before anything else is looked at, and what could not be named is told as nothing.
 ghost use mathlib.Core.Path.{_≡_};
-ghost use Rattle.climboat.specs.Calls.{pT as pTof, pv2T as pv2Tof, Tv2p as Tv2pOf, Th2p as Th2pOf, Ts2p as Ts2pOf};
+ghost use Rattle.vessel.specs.Log.{lent};
+ghost use Rattle.climboat.specs.Calls.{pT as pTof, pT-log as pTlogOf, pv2T as pv2Tof, Tv2p as Tv2pOf, Th2p as Th2pOf, Ts2p as Ts2pOf};
 use crate::names::NamedPvRegion;
 use vessel::answer::Answer;
 use vessel::answer::refused;
@@ -23,6 +24,28 @@ pub fn pT(region: u32, property: u32, p: f64, T: f64) -> Answer
         return refused(asked, 21);
     };
     vessel::property::pT(in_region, of_property, p, T)
+}
+
+// Where a number names nothing 21 comes back, and nothing is written.
+pub fn pT_log(
+    region: u32,
+    property: u32,
+    p: &[f64],
+    T: &[f64],
+    values: &mut [f64],
+    numbers: &mut [u32],
+) -> u32
+    ensures { λ r. ⌜ r ≡ pTlogOf region property (lent (now (p .entry)) (now (T .entry)) (now (values .entry)) (now (numbers .entry))) .number ⌝ }
+    ensures { λ _. ⌜ now (values .exit) ≡ pTlogOf region property (lent (now (p .entry)) (now (T .entry)) (now (values .entry)) (now (numbers .entry))) .values ⌝ }
+    ensures { λ _. ⌜ now (numbers .exit) ≡ pTlogOf region property (lent (now (p .entry)) (now (T .entry)) (now (values .entry)) (now (numbers .entry))) .numbers ⌝ }
+{
+    let NamedRegion::Names(in_region) = crate::names::region(region) else {
+        return 21;
+    };
+    let NamedProperty::Names(of_property) = crate::names::property(property) else {
+        return 21;
+    };
+    vessel::log::pT_log(in_region, of_property, p, T, values, numbers)
 }
 
 pub fn pv2T(region: u32, p: f64, v: f64, limit: u32) -> Answer

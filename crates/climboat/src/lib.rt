@@ -1,7 +1,8 @@
 // The C interface: the vessel's calls with numbers for their choices, each writing its answer as a record into two lent arrays.
 ghost use mathlib.Core.Path.{_≡_};
 ghost use Rattle.vessel.specs.Calls.{saturation-pressure, saturation-temperature, B23-pressure, B23-temperature};
-ghost use Rattle.climboat.specs.Calls.{pT, pv2T, Tv2p, Th2p, Ts2p};
+ghost use Rattle.vessel.specs.Log.{lent};
+ghost use Rattle.climboat.specs.Calls.{pT, pT-log, pv2T, Tv2p, Th2p, Ts2p};
 ghost use Rattle.climboat.specs.Record.{numbers as numbersOf, doubles as doublesOf};
 
 pub mod calls;
@@ -24,6 +25,23 @@ pub extern "C" fn climboat_pT_columns(
     let answer = calls::pT(region, property, p, T);
     *numbers = record::numbers(answer);
     *doubles = record::doubles(answer);
+}
+
+// A property at every (p,T) of a log: each run is a pointer and a length.
+#[no_mangle]
+pub extern "C" fn climboat_pT_log_runs(
+    region: u32,
+    property: u32,
+    p: &[f64],
+    T: &[f64],
+    values: &mut [f64],
+    numbers: &mut [u32],
+) -> u32
+    ensures { λ r. ⌜ r ≡ pT-log region property (lent (now (p .entry)) (now (T .entry)) (now (values .entry)) (now (numbers .entry))) .number ⌝ }
+    ensures { λ _. ⌜ now (values .exit) ≡ pT-log region property (lent (now (p .entry)) (now (T .entry)) (now (values .entry)) (now (numbers .entry))) .values ⌝ }
+    ensures { λ _. ⌜ now (numbers .exit) ≡ pT-log region property (lent (now (p .entry)) (now (T .entry)) (now (values .entry)) (now (numbers .entry))) .numbers ⌝ }
+{
+    calls::pT_log(region, property, p, T, values, numbers)
 }
 
 // The pressure of the saturation line at T.

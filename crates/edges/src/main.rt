@@ -2,6 +2,7 @@
 mod calls;
 mod helpers;
 mod limits;
+mod log;
 
 fn main() {
     helpers::all();
@@ -26,4 +27,8 @@ fn main() {
     calls::inside();
     calls::region5();
     calls::region5_h_s();
+    log::filled();
+    log::filled_5();
+    log::refused();
+    log::empty();
 }

@@ -27,7 +27,8 @@ pub fn tell(name: &[u8], x: f64) {
     write(b"\n");
 }
 
-fn number(name: &[u8], n: u32) {
+// A whole number with its name.
+pub fn number(name: &[u8], n: u32) {
     write(name);
     io::print_decimal(STDOUT_FILENO, n as u64);
 }

@@ -5,3 +5,4 @@ pub mod OneOutcome
 pub mod EveryCall
 pub mod Residuals
 pub mod Patience
+pub mod Places

@@ -9,3 +9,4 @@ pub mod Readings
 pub mod Residuals
 pub mod EveryCall
 pub mod Patience
+pub mod Log

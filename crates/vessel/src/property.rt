@@ -103,7 +103,7 @@ fn formula_5(property: Property, p: f64, T: f64) -> f64
 }
 
 // The region's formula, with no check of the range.
-fn formula(region: Region, property: Property, p: f64, T: f64) -> f64
+pub fn formula(region: Region, property: Property, p: f64, T: f64) -> f64
     ensures { λ r. ⌜ r ≡ formulaOf region property p T ⌝ }
 {
     match region {

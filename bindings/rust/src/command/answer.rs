@@ -80,10 +80,7 @@ impl Words {
     }
 
     fn double(&self, x: f64) -> String {
-        match self.notation {
-            Notation::Decimal => format!("{x:?}"),
-            Notation::Bits => format!("{:016x}", x.to_bits()),
-        }
+        self.notation.written(x)
     }
 
     /// A double of what was asked for, with its unit.

@@ -1,5 +1,6 @@
 //! `--diagram`: the p-T diagram as SVG, drawn from the library's own answers. The same bytes each time.
 use crate::grid::{rectangles, Class, Rectangle};
+use crate::picture::{Picture, END, MIDDLE};
 use climboat::{b23_pressure, saturation_pressure, Reading, Refusal};
 use std::fmt::Write;
 
@@ -16,9 +17,6 @@ const DECADE: f64 = 50.0;
 /// Where the plot ends.
 const RIGHT: f64 = LEFT + WIDTH as f64;
 const BOTTOM: f64 = TOP + HEIGHT as f64;
-
-const MIDDLE: &str = " text-anchor=\"middle\"";
-const END: &str = " text-anchor=\"end\"";
 
 const CRITICAL_T: f64 = 647.096;
 const CRITICAL_P: f64 = 22.064;
@@ -109,23 +107,15 @@ fn meaning(class: &Class) -> String {
 }
 
 const TITLE: &str = "What regions 1, 2 and 5 answer for p and T";
-const STYLE: &str = "<style>
-text{font-family:DejaVu Sans,Verdana,Arial,sans-serif;font-size:13px;fill:#1c1c1c}
-.small{font-size:11px}
-.name{font-size:17px;font-weight:bold}
-.grid{stroke:#1c1c1c;stroke-opacity:.14}
-.leader{stroke:#1c1c1c;stroke-opacity:.5}
-.limit{stroke:#1c1c1c;stroke-opacity:.55;stroke-dasharray:3 4}
-.saturation{stroke:#0b3d91;stroke-width:2.5;fill:none}
-.b23{stroke:#8a1c1c;stroke-width:2.5;fill:none}
-</style>";
+const STYLE: &str = ".saturation{stroke:#0b3d91;stroke-width:2.5;fill:none}
+.b23{stroke:#8a1c1c;stroke-width:2.5;fill:none}";
 
 /// The whole picture.
 pub fn svg() -> String {
     let temperatures: Vec<f64> = (0..WIDTH).map(temperature_of).collect();
     let pressures: Vec<f64> = (0..HEIGHT).map(pressure_of).collect();
     let cells = rectangles(&temperatures, &pressures);
-    let mut picture = Picture::new();
+    let mut picture = Picture::new(1020.0, 870.0, TITLE, STYLE);
     for (class, cells) in &cells {
         picture.cells(class, cells);
     }
@@ -140,39 +130,10 @@ pub fn svg() -> String {
     picture.end()
 }
 
-struct Picture(String);
-
 impl Picture {
-    fn new() -> Picture {
-        let mut picture = Picture(String::new());
-        picture.put(r#"<svg xmlns="http://www.w3.org/2000/svg" viewBox="0 0 1020 870" width="1020" height="870" role="img">"#);
-        picture.put(&format!("<title>{TITLE}</title>"));
-        picture.put(STYLE);
-        picture.put("<rect width=\"1020\" height=\"870\" rx=\"8\" fill=\"#fafafa\"/>");
-        picture
-    }
-
-    fn put(&mut self, text: &str) {
-        self.0.push_str(text);
-        self.0.push('\n');
-    }
-
-    fn text(&mut self, x: f64, y: f64, attributes: &str, text: &str) {
-        self.put(&format!(
-            "<text x=\"{x:.1}\" y=\"{y:.1}\"{attributes}>{text}</text>"
-        ));
-    }
-
     fn upwards(&mut self, x: f64, y: f64, text: &str) {
         let turned = format!("{MIDDLE} transform=\"rotate(-90 {x:.1} {y:.1})\"");
         self.text(x, y, &turned, text);
-    }
-
-    fn line(&mut self, kind: &str, from: (f64, f64), to: (f64, f64)) {
-        self.put(&format!(
-            "<path class=\"{kind}\" d=\"M{:.1} {:.1}L{:.1} {:.1}\"/>",
-            from.0, from.1, to.0, to.1
-        ));
     }
 
     fn cells(&mut self, class: &Class, cells: &[Rectangle]) {
@@ -296,7 +257,7 @@ impl Picture {
         let (left, right, top) = (LEFT, LEFT + 400.0, BOTTOM + 62.0);
         for (place, class) in classes.enumerate() {
             let y = top + 22.0 * place as f64;
-            self.put(&format!("<rect x=\"{left:.1}\" y=\"{y:.1}\" width=\"26\" height=\"15\" fill=\"{}\" stroke=\"#1c1c1c\" stroke-opacity=\".4\"/>", colour(class)));
+            self.swatch(left, y, colour(class));
             self.text(left + 36.0, y + 12.0, "", &meaning(class));
         }
         let lines = [
@@ -317,10 +278,5 @@ impl Picture {
             let y = top + 22.0 * (lines.len() + place) as f64 + 12.0;
             self.text(right, y, "", note);
         }
-    }
-
-    fn end(mut self) -> String {
-        self.put("</svg>");
-        self.0
     }
 }

@@ -1,57 +1,34 @@
 //! `--lines`: one request per line of the input, answered in its place, so that the output has a line for each line of the input.
 use crate::answer::Answer;
-use crate::request::{request, Notation};
+use crate::reader::{Line, Lines};
+use crate::request::{request, Notation, Wrong};
 use crate::WRONG;
-use std::io::{self, BufRead, BufReader, Read, Write};
-
-/// The longest line that is read, in bytes: what is longer is bad, and never held in memory.
-const LONGEST: usize = 4096;
+use std::io::{self, Read, Write};
 
 /// Answers every line, and gives the exit status: that of the worst line.
 pub fn answer(input: impl Read, output: &mut impl Write, notation: Notation) -> io::Result<u8> {
-    let mut input = BufReader::new(input);
-    let mut line = Vec::new();
+    let mut lines = Lines::new(input);
     let mut status = 0;
-    for number in 1_u64.. {
-        line.clear();
-        let most = LONGEST as u64 + 1;
-        if input.by_ref().take(most).read_until(b'\n', &mut line)? == 0 {
-            break;
-        }
-        if line.last() == Some(&b'\n') {
-            line.pop();
-        }
-        let long = line.len() > LONGEST;
-        if long {
-            input.skip_until(b'\n')?;
-        }
-        status = status.max(put(&line, long, number, output, notation)?);
-        // whoever waits for an answer before asking on gets it
-        if input.buffer().is_empty() {
+    while let Some((number, line)) = lines.next()? {
+        status = status.max(match line {
+            Ok(Line::Passed(line)) => pass(line, output)?,
+            Ok(Line::Asking(text)) => put(&text, number, output, notation)?,
+            Err(wrong) => bad(wrong, number, output)?,
+        });
+        if lines.pauses() {
             output.flush()?;
         }
     }
     Ok(status)
 }
 
-/// Answers one line. A blank line and a line that starts with # stand for themselves.
-fn put(
-    line: &[u8],
-    long: bool,
-    number: u64,
-    output: &mut impl Write,
-    notation: Notation,
-) -> io::Result<u8> {
-    if long {
-        writeln!(output, "bad line {number}: longer than {LONGEST} bytes")?;
-        return Ok(WRONG);
-    }
-    if line.trim_ascii().is_empty() || line.starts_with(b"#") {
-        output.write_all(line)?;
-        output.write_all(b"\n")?;
-        return Ok(0);
-    }
-    let text = String::from_utf8_lossy(line);
+fn pass(line: &[u8], output: &mut impl Write) -> io::Result<u8> {
+    output.write_all(line)?;
+    output.write_all(b"\n")?;
+    Ok(0)
+}
+
+fn put(text: &str, number: u64, output: &mut impl Write, notation: Notation) -> io::Result<u8> {
     let words: Vec<&str> = text.split_ascii_whitespace().collect();
     match request(&words, notation) {
         Ok((request, notation)) => {
@@ -59,9 +36,11 @@ fn put(
             writeln!(output, "{}", answer.line())?;
             Ok(answer.status)
         }
-        Err(wrong) => {
-            writeln!(output, "bad line {number}: {}", wrong.0)?;
-            Ok(WRONG)
-        }
+        Err(wrong) => bad(wrong, number, output),
     }
+}
+
+fn bad(wrong: Wrong, number: u64, output: &mut impl Write) -> io::Result<u8> {
+    writeln!(output, "bad line {number}: {}", wrong.0)?;
+    Ok(WRONG)
 }

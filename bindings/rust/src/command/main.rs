@@ -1,13 +1,21 @@
-//! The command `climboat`: one request on its command line, or many on standard input, answered by the library.
+//! The command `climboat`: one request on its command line, or many or a whole log on standard input, answered by the library.
 mod answer;
+mod bands;
+mod chart;
 mod diagram;
 mod grid;
 mod lines;
+mod log;
+mod picture;
+mod progress;
+mod reader;
+mod readings;
 mod request;
+mod scale;
 
 use answer::Answer;
 use climboat::{FOLLOWS, VERSION};
-use request::{request, Notation};
+use request::{command, Command, Notation};
 use std::io::{self, BufWriter, ErrorKind, Write};
 use std::process::ExitCode;
 
@@ -23,6 +31,7 @@ const SHORT: &str = "climboat answers for water and steam, or refuses by number.
   climboat 2 Ts 500 7.2        the pressure in region 2 at 500 K and 7.2 kJ/(kg K)
   climboat 5 pT h 0.5 1500     the enthalpy in region 5, of a furnace, at 0.5 MPa and 1500 K
   climboat sat T 1             the saturation temperature at 1 MPa
+  climboat 1 log v <day.csv    the volume in region 1, or a refusal's number, beside every p and T of a log
   climboat --help              all of it
 ";
 const EXAMPLE: [&str; 4] = ["1", "pv", "3", "0.001"];
@@ -74,8 +83,9 @@ fn run(words: &[&str], output: &mut impl Write) -> io::Result<u8> {
 
 /// Answers one command line.
 fn one(words: &[&str], output: &mut impl Write) -> io::Result<u8> {
-    match request(words, Notation::Decimal) {
-        Ok((request, notation)) => {
+    match command(words, Notation::Decimal) {
+        Ok((Command::Log(log), notation)) => log::answer(log, io::stdin().lock(), output, notation),
+        Ok((Command::One(request), notation)) => {
             let answer = Answer::to(request, notation);
             writeln!(output, "{}", answer.lines())?;
             Ok(answer.status)

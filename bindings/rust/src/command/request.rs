@@ -3,6 +3,7 @@ use climboat::{
     b23_pressure, b23_temperature, saturation_pressure, saturation_temperature, Pair, Property,
     PvRegion, Reading, Refusal, Region, STEP_LIMIT,
 };
+use std::fmt;
 
 /// How doubles are read and written.
 #[derive(Clone, Copy, PartialEq)]
@@ -10,6 +11,15 @@ pub enum Notation {
     Decimal,
     /// The sixteen hexadecimal digits of a double's bits.
     Bits,
+}
+
+impl Notation {
+    pub fn written(self, x: f64) -> String {
+        match self {
+            Notation::Decimal => format!("{x:?}"),
+            Notation::Bits => format!("{:016x}", x.to_bits()),
+        }
+    }
 }
 
 /// The call of a line of the release for one of its two coordinates.
@@ -32,14 +42,46 @@ pub enum Request {
     Line(Line, f64),
 }
 
-/// What is wrong with a command line.
+/// A log, which is read from standard input: the property at every place of it.
+#[derive(Clone, Copy)]
+pub struct Log {
+    pub region: Region,
+    pub property: Property,
+    /// whether it is drawn, or written as columns
+    pub chart: bool,
+}
+
+/// What a command line asks for.
+pub enum Command {
+    One(Request),
+    Log(Log),
+}
+
+/// What is wrong with a command line, or with a line of the input.
 pub struct Wrong(pub String);
 
-/// A word with its place on the command line, which begins at 1.
+/// What a word is called where it is wrong.
 #[derive(Clone, Copy)]
-struct Word<'a> {
-    place: usize,
-    text: &'a str,
+pub enum Name {
+    /// Its place on the command line, which begins at 1.
+    Word(usize),
+    /// Its column in a log.
+    Column(&'static str),
+}
+
+impl fmt::Display for Name {
+    fn fmt(&self, f: &mut fmt::Formatter<'_>) -> fmt::Result {
+        match self {
+            Name::Word(place) => write!(f, "word {place}"),
+            Name::Column(symbol) => write!(f, "column {symbol}"),
+        }
+    }
+}
+
+#[derive(Clone, Copy)]
+pub struct Word<'a> {
+    pub name: Name,
+    pub text: &'a str,
 }
 
 impl Word<'_> {
@@ -51,7 +93,7 @@ impl Word<'_> {
         } else {
             ""
         };
-        Wrong(format!("word {}, {start:?}{rest}, {what}", self.place))
+        Wrong(format!("{}, {start:?}{rest}, {what}", self.name))
     }
 
     fn among<T: Copy>(
@@ -70,7 +112,7 @@ impl Word<'_> {
         })
     }
 
-    fn number(self, notation: Notation) -> Result<f64, Wrong> {
+    pub fn number(self, notation: Notation) -> Result<f64, Wrong> {
         if notation == Notation::Decimal {
             return self.text.parse().map_err(|_| self.wrong("is no number"));
         }
@@ -96,12 +138,13 @@ struct Words<'a> {
     taken: usize,
     notation: Notation,
     limit: Option<(Word<'a>, u32)>,
+    chart: Option<Word<'a>>,
 }
 
 impl<'a> Words<'a> {
     fn new(texts: &[&'a str], notation: Notation) -> Result<Words<'a>, Wrong> {
         let mut all = texts.iter().enumerate().map(|(place, text)| Word {
-            place: place + 1,
+            name: Name::Word(place + 1),
             text,
         });
         let mut words = Words {
@@ -109,10 +152,12 @@ impl<'a> Words<'a> {
             taken: 0,
             notation,
             limit: None,
+            chart: None,
         };
         while let Some(word) = all.next() {
             match word.text {
                 "--bits" => words.notation = Notation::Bits,
+                "--chart" => words.chart = Some(word),
                 "--limit" => {
                     let Some(limit) = all.next() else {
                         return Err(word.wrong("needs a step limit after it"));
@@ -123,7 +168,9 @@ impl<'a> Words<'a> {
                     words.limit = Some((word, limit.limit()?));
                 }
                 text if text.starts_with("--") => {
-                    return Err(word.wrong("is no option of a request: those are --bits, --limit"))
+                    return Err(
+                        word.wrong("is no option of a request: those are --bits, --limit, --chart")
+                    );
                 }
                 _ => words.words.push(word),
             }
@@ -142,15 +189,29 @@ impl<'a> Words<'a> {
         self.next(what)?.number(notation)
     }
 
+    fn property(&mut self) -> Result<Property, Wrong> {
+        let symbol = |property: Property| property.symbol().to_string();
+        let word = self.next("a property")?;
+        word.among(Property::ALL, symbol, "property")
+    }
+
     /// Nothing may be left over.
-    fn end(self, request: Request) -> Result<(Request, Notation), Wrong> {
+    fn end(self, command: Command) -> Result<(Command, Notation), Wrong> {
         if let Some(word) = self.words.get(self.taken) {
-            return Err(word.wrong("is one too many"));
+            let hint = match command {
+                Command::One(_) => "",
+                Command::Log(_) => ": a log comes on standard input",
+            };
+            return Err(word.wrong(&format!("is one too many{hint}")));
         }
-        match (&request, self.limit) {
-            (Request::Search { .. }, _) | (_, None) => Ok((request, self.notation)),
-            (_, Some((word, _))) => Err(word.wrong("is for a search alone: pv, Tv, Th, Ts")),
+        let searches = matches!(command, Command::One(Request::Search { .. }));
+        if let (Some((word, _)), false) = (self.limit, searches) {
+            return Err(word.wrong("is for a search alone: pv, Tv, Th, Ts"));
         }
+        if let (Some(word), Command::One(_)) = (self.chart, &command) {
+            return Err(word.wrong("is for a log alone"));
+        }
+        Ok((command, self.notation))
     }
 }
 
@@ -172,8 +233,8 @@ impl First {
     }
 }
 
-/// The request that the words make.
-pub fn request(texts: &[&str], notation: Notation) -> Result<(Request, Notation), Wrong> {
+/// What the words of a command line ask for.
+pub fn command(texts: &[&str], notation: Notation) -> Result<(Command, Notation), Wrong> {
     let mut words = Words::new(texts, notation)?;
     let regions = Region::ALL.iter().copied().map(First::Region);
     let firsts: Vec<First> = regions.chain([First::Saturation, First::B23]).collect();
@@ -181,59 +242,94 @@ pub fn request(texts: &[&str], notation: Notation) -> Result<(Request, Notation)
         words
             .next("a region, or sat, or b23")?
             .among(&firsts, First::name, "region or line")?;
-    let request = match first {
+    let command = match first {
         First::Region(region) => of_region(&mut words, region)?,
         First::Saturation => of_line(&mut words, saturation_temperature, saturation_pressure)?,
         First::B23 => of_line(&mut words, b23_temperature, b23_pressure)?,
     };
-    words.end(request)
+    words.end(command)
 }
 
-fn of_line(words: &mut Words, temperature: Line, pressure: Line) -> Result<Request, Wrong> {
+/// The request that the words of a line make. A log is none: it has standard input for itself.
+pub fn request(texts: &[&str], notation: Notation) -> Result<(Request, Notation), Wrong> {
+    match command(texts, notation)? {
+        (Command::One(request), notation) => Ok((request, notation)),
+        (Command::Log(_), _) => Err(Wrong(
+            "a log is asked for on the command line, not on a line of --lines".to_string(),
+        )),
+    }
+}
+
+fn of_line(words: &mut Words, temperature: Line, pressure: Line) -> Result<Command, Wrong> {
     let asked = words.next("T or p, which is asked for")?.among(
         &["T", "p"],
         str::to_string,
         "coordinate",
     )?;
-    if asked == "T" {
-        return Ok(Request::Line(temperature, words.number("the number p")?));
-    }
-    Ok(Request::Line(pressure, words.number("the number T")?))
+    let (line, other) = match asked {
+        "T" => (temperature, "the number p"),
+        _ => (pressure, "the number T"),
+    };
+    Ok(Command::One(Request::Line(line, words.number(other)?)))
 }
 
-fn of_region(words: &mut Words, region: Region) -> Result<Request, Wrong> {
-    let pairs: Vec<Option<Pair>> = std::iter::once(None)
-        .chain(Pair::ALL.iter().copied().map(Some))
-        .collect();
-    let symbol = |pair: Option<Pair>| pair.map_or("pT", Pair::symbol).to_string();
-    let word = words.next("a pair, pT or pv or Tv or Th or Ts")?;
-    let Some(pair) = word.among(&pairs, symbol, "pair")? else {
-        let property = words.next("a property")?.among(
-            Property::ALL,
-            |property| property.symbol().to_string(),
-            "property",
-        )?;
-        let p = words.number("the number p")?;
-        let t = words.number("the number T")?;
-        return Ok(Request::Property {
-            region,
-            property,
-            p,
-            t,
-        });
-    };
-    if let (Pair::Pv, Err(without)) = (pair, PvRegion::try_from(region)) {
-        return Err(word.wrong(&format!("is no pair of this region: {without}")));
+/// What may be asked of a region.
+#[derive(Clone, Copy)]
+enum Second {
+    Property,
+    Search(Pair),
+    Log,
+}
+
+impl Second {
+    fn name(self) -> String {
+        match self {
+            Second::Property => "pT".to_string(),
+            Second::Search(pair) => pair.symbol().to_string(),
+            Second::Log => "log".to_string(),
+        }
     }
+}
+
+fn of_region(words: &mut Words, region: Region) -> Result<Command, Wrong> {
+    let pairs = Pair::ALL.iter().copied().map(Second::Search);
+    let seconds: Vec<Second> = [Second::Property]
+        .into_iter()
+        .chain(pairs)
+        .chain([Second::Log])
+        .collect();
+    let word = words.next("a pair, pT or pv or Tv or Th or Ts, or log")?;
+    match word.among(&seconds, Second::name, "pair or log")? {
+        Second::Property => Ok(Command::One(Request::Property {
+            region,
+            property: words.property()?,
+            p: words.number("the number p")?,
+            t: words.number("the number T")?,
+        })),
+        Second::Search(pair) => {
+            if let (Pair::Pv, Err(without)) = (pair, PvRegion::try_from(region)) {
+                return Err(word.wrong(&format!("is no pair of this region: {without}")));
+            }
+            of_pair(words, region, pair)
+        }
+        Second::Log => Ok(Command::Log(Log {
+            region,
+            property: words.property()?,
+            chart: words.chart.is_some(),
+        })),
+    }
+}
+
+fn of_pair(words: &mut Words, region: Region, pair: Pair) -> Result<Command, Wrong> {
     let (fixed, target) = pair.symbol().split_at(1);
     let fixed = words.number(&format!("the number {fixed}"))?;
     let target = words.number(&format!("the number {target}"))?;
     let limit = words.limit.map_or(STEP_LIMIT, |(_, limit)| limit);
-    Ok(Request::Search {
+    Ok(Command::One(Request::Search {
         region,
         pair,
         fixed,
         target,
         limit,
-    })
+    }))
 }
