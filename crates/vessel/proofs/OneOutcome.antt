@@ -1,12 +1,15 @@
--- Each call has one outcome: two answers of which a caller is told what the call's own contract tells, for the same inputs, are the same. Of `Learnt`, the contract as the prover reads it.
--- Assumes nothing.
+-- Each call has one outcome: two answers of which a caller is told what the call's own contract tells, for the same inputs, are the same; of a log, what comes back and both runs as they are left. Of
+-- `Learnt`, the contract as the prover reads it. Assumes nothing.
 use mathlib.Core.Path.{_≡_, sym, _∙_}
 use mathlib.Core.List.{List}
 use contract.Lifetimes.{Lfts}
 use borrow.Fn.Kinds.{PK, RK, Dens, resT, endedOf, Out}
+use denote.Ref.{now}
 use denote.Triple.Clauses.{AtExit}
 use Rattle.vessel.proofs.property.pT.Kinds as pT
 use Rattle.vessel.proofs.property.pT.Reads as pT-contract
+use Rattle.vessel.proofs.log.pT_log.Kinds as pT-log
+use Rattle.vessel.proofs.log.pT_log.Reads as pT-log-contract
 use Rattle.vessel.proofs.saturation.saturation_pressure.Kinds as saturation-pressure
 use Rattle.vessel.proofs.saturation.saturation_pressure.Reads as saturation-pressure-contract
 use Rattle.vessel.proofs.saturation.saturation_temperature.Kinds as saturation-temperature
@@ -55,3 +58,12 @@ Th2p-once κs a x y s t h k = h ∙ sym k
 
 pub Ts2p-once : Once Ts2p.ps Ts2p.r Ts2p-contract.Learnt
 Ts2p-once κs a x y s t h k = h ∙ sym k
+
+-- values and numbers are the fifth and the sixth parameter
+pub record OneLog (κs : Lfts 4) (x y : resT pT-log.r κs .Denot) (s t : AtExit (endedOf 4 pT-log.ps pT-log.r) κs) : Type 0 where
+  pub back : x ≡ y
+  pub values : now (s .1 .1 .1 .1 .0) ≡ now (t .1 .1 .1 .1 .0)
+  pub numbers : now (s .1 .1 .1 .1 .1 .0) ≡ now (t .1 .1 .1 .1 .1 .0)
+
+pub pT-log-once : (κs : Lfts 4) (a : Dens κs pT-log.ps) (x y : resT pT-log.r κs .Denot) (s t : AtExit (endedOf 4 pT-log.ps pT-log.r) κs) → pT-log-contract.Learnt κs a x s → pT-log-contract.Learnt κs a y t → OneLog κs x y s t
+pT-log-once κs a x y s t h k = record { back = h .0 ∙ sym (k .0); values = h .1 .0 ∙ sym (k .1 .0); numbers = h .1 .1 ∙ sym (k .1 .1) }
