@@ -133,7 +133,8 @@ void climboat_Tv2p_columns(uint32_t region, double T, double v, uint32_t limit, 
 void climboat_Th2p_columns(uint32_t region, double T, double h, uint32_t limit, uint32_t numbers[8], double doubles[8]);
 void climboat_Ts2p_columns(uint32_t region, double T, double s, uint32_t limit, uint32_t numbers[8], double doubles[8]);
 
-/* The archive's log, whose runs must not be null, and whose written runs must not share memory with another: it does not look, and climboat_pT_log does. */
+/* The archive's log. It takes for granted what C does not say: that each run has as many places as its length says, that none is null, and that none which is written shares memory with
+ * another. Call climboat_pT_log, which looks. */
 uint32_t climboat_pT_log_runs(uint32_t region, uint32_t property, const double *p, size_t p_length, const double *T, size_t T_length, double *values, size_t values_length, uint32_t *numbers,
                               size_t numbers_length);
 
@@ -205,14 +206,15 @@ static inline bool climboat_are_lent(const double *p, const double *T, const dou
 static inline uint32_t climboat_pT_log(uint32_t region, uint32_t property, const double *p, size_t p_length, const double *T, size_t T_length, double *values, size_t values_length,
                                        uint32_t *numbers, size_t numbers_length)
 {
-    /* the archive takes no null pointer: these stand for one where no place is read or written */
+    /* what stands in for runs that are not handed on: the archive is lent nothing but what it takes for granted of a run, whatever the caller's pointers and lengths are */
     const double no_input = 0.0;
     double no_value = 0.0;
     uint32_t no_number = 0;
     bool one_length = T_length == p_length && values_length == p_length && numbers_length == p_length;
-    if (one_length && p_length != 0 && p_length <= CLIMBOAT_LONGEST_LOG && !climboat_are_lent(p, T, values, numbers, p_length)) return CLIMBOAT_RUNS_NOT_LENT;
-    return climboat_pT_log_runs(region, property, p != NULL ? p : &no_input, p_length, T != NULL ? T : &no_input, T_length, values != NULL ? values : &no_value, values_length,
-                                numbers != NULL ? numbers : &no_number, numbers_length);
+    if (!one_length || p_length > CLIMBOAT_LONGEST_LOG) return climboat_pT_log_runs(region, property, &no_input, 1, &no_input, 0, &no_value, 0, &no_number, 0);
+    if (p_length == 0) return climboat_pT_log_runs(region, property, &no_input, 0, &no_input, 0, &no_value, 0, &no_number, 0);
+    if (!climboat_are_lent(p, T, values, numbers, p_length)) return CLIMBOAT_RUNS_NOT_LENT;
+    return climboat_pT_log_runs(region, property, p, p_length, T, T_length, values, values_length, numbers, numbers_length);
 }
 
 /* The saturation pressure in MPa at T in K, from 273.15 to 647.096 K. */

@@ -183,7 +183,7 @@ const PROPERTIES: [(u32, u32, &str, fn(f64, f64) -> f64); 12] = [
 ];
 
 /// Logs of the same states in a pass, so that it takes some milliseconds.
-const LOGS: [(); 50] = [(); 50];
+const LOGS: [(); 200] = [(); 200];
 
 /// One call over the longest log, against single calls that put their value and number into the same two runs; also where every place is refused.
 fn logs(bars: &mut Bars) {
