@@ -191,7 +191,7 @@ static inline bool climboat_are_lent(const double *p, const double *T, const dou
 }
 
 /* A whole log at once: a property of a region at every p[k] in MPa and T[k] in K. values[k] and numbers[k] become the value and the number that climboat_pT gives there: the value is 0 where it
- * refuses, the number 0 where it answers, and no refusal stops the rest. The four lengths are in places. What comes back is
+ * refuses, the number 0 where it answers, and no refusal stops the rest. The four lengths are in places; that a run has so many is the one thing that cannot be looked at here. What comes back is
  *    0  both runs are filled, whatever was refused; with length 0 there is nothing to fill, and a run may be null
  *   13  CLIMBOAT_LOG_LENGTHS: the four lengths differ, or exceed CLIMBOAT_LONGEST_LOG
  *   21  CLIMBOAT_NOTHING_NAMED, before 13: the number of the region or of the property names none
@@ -206,7 +206,7 @@ static inline bool climboat_are_lent(const double *p, const double *T, const dou
 static inline uint32_t climboat_pT_log(uint32_t region, uint32_t property, const double *p, size_t p_length, const double *T, size_t T_length, double *values, size_t values_length,
                                        uint32_t *numbers, size_t numbers_length)
 {
-    /* what stands in for runs that are not handed on: the archive is lent nothing but what it takes for granted of a run, whatever the caller's pointers and lengths are */
+    /* lent in the place of runs that are not handed on: each is what the archive takes a run for */
     const double no_input = 0.0;
     double no_value = 0.0;
     uint32_t no_number = 0;

@@ -13,7 +13,6 @@ use Rattle.search.specs.declared.bracket.Bracket.{Bracket}
 use Rattle.search.specs.declared.bracket.Outcome.{Outcome}
 use Rattle.search.specs.declared.bracket.Outcome.the-variants.{ExactEnd as EndFound, SmallResidual as SmallFound, Narrow as NarrowFound, Refused as Stopped}
 use Rattle.vessel.specs.declared.asked.Asked.{Asked}
-use Rattle.vessel.specs.declared.log.Reading.{Reading}
 use Rattle.vessel.specs.declared.answer.Found.{Found}
 use Rattle.vessel.specs.declared.answer.Answer.{Answer}
 use Rattle.vessel.specs.declared.answer.Answer.the-variants.{Value, ExactEnd, SmallResidual, Narrow, Refused}
@@ -123,7 +122,3 @@ columns (Refused a r) =
       upper-residual = r .bracket .r2;
       asked = a;
     }
-
--- ---- the two columns that a log keeps
-abbrev pub readingOf : Answer → Reading
-readingOf a = record { number = columns a .number; value = columns a .value }

@@ -11,6 +11,7 @@ use Rattle.float.specs.Sign.{nought}
 use Rattle.vessel.specs.Answer.{Columns, columns}
 use Rattle.vessel.specs.Calls.{property}
 use Rattle.vessel.specs.declared.answer.Answer.{Answer}
+use Rattle.vessel.specs.declared.log.Reading.{Reading}
 use Rattle.vessel.specs.declared.property.Property.{Property}
 use Rattle.pairs.specs.declared.row.Region.{Region}
 
@@ -37,6 +38,10 @@ together p T values numbers = leb p 4096 && (eqb T p && (eqb values p && eqb num
 
 abbrev pub fits : Runs → Bool
 fits runs = together (length (runs .p)) (length (runs .T)) (length (runs .values)) (length (runs .numbers))
+
+-- what a log keeps of an answer: two of its columns
+abbrev pub readingOf : Answer → Reading
+readingOf a = record { number = columns a .number; value = columns a .value }
 
 -- a column of the single call's answers, place by place
 abbrev pub column : {A : Type 0} → (Columns → A) → (Float → Float → Answer) → List Float → List Float → List A

@@ -1,8 +1,7 @@
 // A whole log at once: the number and the value of the call by (p,T) at every place, into two lent runs.
 ghost use mathlib.Core.Path.{_≡_};
-ghost use Rattle.vessel.specs.Answer.{readingOf};
 ghost use Rattle.vessel.specs.Calls.{property as propertyOf};
-ghost use Rattle.vessel.specs.Log.{together as togetherOf, lent, log as logOf};
+ghost use Rattle.vessel.specs.Log.{readingOf, together as togetherOf, lent, log as logOf};
 use crate::property::Property;
 use crate::property::formula;
 use crate::range::refusal;

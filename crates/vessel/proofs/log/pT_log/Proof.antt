@@ -1,8 +1,7 @@
 -- `vessel::log::pT_log` meets its contract. The invariant of its loop: both runs are filled up to the place. Assumes nothing.
 use Prim.Native.Nat.{ℕ, _-_, _≤_, _<_, zero-le}
 use mathlib.Core.Path.{_≡_, refl, sym, ap, _∙_, subst}
-use native.Mathlib.Nat.{le-trans, le-antisymm, le-of-eq}
-use native.Mathlib.Numerals.{add-one, add-one-le}
+use native.Mathlib.Numerals.{add-one-le}
 use native.Mathlib.Omega.{arith}
 use lib.ListN.{length}
 use borrow.Author.Count.{falls}
