@@ -59,6 +59,10 @@ fn the_first_line_may_name_the_columns() {
         let out = columns("1 log v", &format!("# a day\n\n{input}\n3,300\n"));
         assert_eq!(out, format!("# a day\n\n{heading}\n3,300,{V},0\n"));
     }
+    // a byte-order mark before them does not count either, and is one nowhere else
+    let marked = columns("1 log v", "\u{feff}p,T\n3,300\n\u{feff}3,300\n");
+    let bad = "# bad line 3: column p, \"\\u{feff}3\", is no number";
+    assert_eq!(marked, format!("p,T,v,number\n3,300,{V},0\n{bad}\n"));
     let named = columns("5 log cp --bits", "p,T\n");
     assert_eq!(named, "p,T,cp,number\n");
 }

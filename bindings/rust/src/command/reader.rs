@@ -5,6 +5,8 @@ use std::io::{self, BufRead, BufReader, Read};
 
 /// The longest line that is read, in bytes: what is longer is bad.
 const LONGEST: usize = 4096;
+/// The byte-order mark that some programs put before a file of UTF-8: it is no part of the first line.
+const MARK: &[u8] = b"\xef\xbb\xbf";
 
 /// What stands on a line.
 pub enum Line<'a> {
@@ -43,6 +45,9 @@ impl<R: Read> Lines<R> {
             self.input.skip_until(b'\n')?;
             let long = Wrong(format!("longer than {LONGEST} bytes"));
             return Ok(Some((self.number, Err(long))));
+        }
+        if self.number == 1 && self.line.starts_with(MARK) {
+            self.line.drain(..MARK.len());
         }
         let asks = !self.line.trim_ascii().is_empty() && !self.line.starts_with(b"#");
         let line = match asks {
