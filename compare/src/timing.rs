@@ -182,7 +182,7 @@ const PROPERTIES: [(u32, u32, &str, fn(f64, f64) -> f64); 12] = [
     (5, 7, "w", climboat::region5_w),
 ];
 
-/// Logs of the same states in a pass, so that it takes some milliseconds.
+/// Logs of the same states in a pass, so that it takes some tens of milliseconds.
 const LOGS: [(); 200] = [(); 200];
 
 /// One call over the longest log, against single calls that put their value and number into the same two runs; also where every place is refused.
