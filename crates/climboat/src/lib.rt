@@ -1,4 +1,6 @@
 // The C interface: the vessel's calls with numbers for their choices, each writing its answer as a record into two lent arrays.
+#![tactic(auto)]
+
 ghost use Rattle.std.specs.Prelude.{◌≡◌};
 ghost use Rattle.vessel.specs.Calls.{saturation_pressure, saturation_temperature, B23_pressure, B23_temperature};
 ghost use Rattle.vessel.specs.Log.{lent};

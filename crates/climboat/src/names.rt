@@ -7,7 +7,7 @@ use vessel::asked::{NamedProperty, NamedRegion};
 use vessel::pair::PvRegion;
 use vessel::property::Property;
 
-#[derive(Drop)]
+#[derive(Clone, Copy)]
 pub enum NamedPvRegion {
     Names(PvRegion),
     Nothing,

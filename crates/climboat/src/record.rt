@@ -17,7 +17,7 @@ fn mark(inside: bool) -> u32
 }
 
 // The first four numbers: number, reason, steps, mark.
-#[derive(Drop)]
+#[derive(Clone, Copy)]
 struct First {
     number: u32,
     reason: u32,

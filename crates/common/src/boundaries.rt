@@ -10,7 +10,7 @@ use float::root::sqrt;
 use float::sign::is_finite;
 
 // What a boundary answers: its double, or the number of the refusal.
-#[derive(Drop)]
+#[derive(Clone, Copy)]
 pub enum Boundary {
     At(f64),
     Refused(u32),
@@ -31,7 +31,7 @@ pub fn B23_p2T(p: f64) -> f64
 }
 
 // The ranges of document 01 that read no boundary: of T and p in region 1, region 2, region 5, on the saturation line and on B23.
-#[derive(Drop)]
+#[derive(Clone, Copy)]
 pub enum Range {
     T1,
     P1,

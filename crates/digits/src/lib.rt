@@ -1,10 +1,12 @@
 // Numbers and doubles from hexadecimal digits, as io::print_hex writes them.
+#![tactic(auto)]
+
 ghost use Rattle.std.specs.Prelude.{◌≡◌};
 ghost use Rattle.std.specs.Float.{binary64};
 ghost use Rattle.std.specs.Float.Ieee.{of_bits};
 ghost use Rattle.digits.specs.Digits.{digit_of, number_of};
 
-#[derive(Drop)]
+#[derive(Clone, Copy)]
 pub enum Number {
     Is(u64),
     // more than sixteen digits, or a byte that is none

@@ -9,7 +9,7 @@ use vessel::saturation::{
 };
 
 // A call with all its inputs but the one that has the limit.
-#[derive(Drop)]
+#[derive(Clone, Copy)]
 enum Call {
     PropertyAtP(Region, Property, f64),
     PropertyAtT(Region, Property, f64),

@@ -1,4 +1,6 @@
 // Document 01's readings at the edges, and the neighbours that a careful reader would try.
+#![tactic(auto)]
+
 mod calls;
 mod helpers;
 mod limits;

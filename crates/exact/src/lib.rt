@@ -1,4 +1,6 @@
 // Exact values of doubles. The crate is its definitions (specs/) and its laws (proofs/); the middle is the one function that is theirs alone.
+#![tactic(auto)]
+
 ghost use Rattle.std.specs.Prelude.{◌≡◌};
 ghost use Rattle.exact.specs.Middle.{middle as middle_of};
 

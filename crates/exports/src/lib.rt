@@ -1,4 +1,6 @@
 // The float helpers and the equations under plain names, for compare/ to link: a static library of nothing but calls.
+#![tactic(auto)]
+
 ghost use Rattle.std.specs.Prelude.{◌≡◌};
 ghost use Rattle.std.specs.Float.Ieee.Scale.{finite};
 ghost use Rattle.float.specs.Sign.{magnitude, smaller, sign_taken, same_sign};

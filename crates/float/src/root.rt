@@ -25,7 +25,7 @@ fn digit_recurrence(m: u64) -> u64
 }
 
 // The number high * 2^54 + low.
-#[derive(Drop)]
+#[derive(Clone, Copy)]
 struct Wide {
     high: u64,
     low: u64,
@@ -47,7 +47,7 @@ fn square(q: u64) -> Wide
 }
 
 // A number on the way to the root of another: root * root + rest is that other.
-#[derive(Drop)]
+#[derive(Clone, Copy)]
 struct Candidate {
     root: u64,
     rest: u64,

@@ -1,4 +1,6 @@
 // The properties from the derivatives of the two parts of the Gibbs free energy, as regions 2 and 5 have them: Tables 12 and 39 of the release, each said once.
+#![tactic(auto)]
+
 ghost use Rattle.std.specs.Prelude.{◌≡◌};
 ghost use Rattle.gibbs.specs.Gibbs.{v as v_of, u as u_of, s as s_of, h as h_of, cp as cp_of, cv as cv_of, w as w_of};
 

@@ -1,4 +1,6 @@
 // The eleven pairs, one row each: which formula is searched, between which ends, by which search.
+#![tactic(auto)]
+
 pub mod pair;
 pub mod question;
 pub mod region1_pair_ext;

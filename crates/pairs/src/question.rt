@@ -6,14 +6,14 @@ use crate::row::Pair;
 use common::boundaries::of_pressures;
 use search::method::Method;
 
-#[derive(Drop)]
+#[derive(Clone, Copy)]
 pub struct Question {
     pub pair: Pair,
     pub fixed: f64,
     pub target: f64,
 }
 
-#[derive(Drop)]
+#[derive(Clone, Copy)]
 pub struct State {
     pub p: f64,
     pub T: f64,

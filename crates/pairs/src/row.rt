@@ -12,7 +12,7 @@ use search::bisection::Width;
 use search::method::Method;
 
 // The region, always named by the caller.
-#[derive(Drop)]
+#[derive(Clone, Copy)]
 pub enum Region {
     One,
     Two,
@@ -20,7 +20,7 @@ pub enum Region {
 }
 
 // Each is named after its inputs and its region: Pv1 is the Rust's pv2T_reg1, Ts2 its Ts2p_reg2. Region 5 has no (p,v).
-#[derive(Drop)]
+#[derive(Clone, Copy)]
 pub enum Pair {
     Pv1,
     Tv1,

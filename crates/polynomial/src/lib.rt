@@ -1,5 +1,7 @@
 // The sums over a table of terms n * vi^I * vj^J and their derivatives: algo/polynomial.rs and algo/polynomial_steps.rs of the Rust, from one loop.
 // A table is three parallel arrays, summed tile by tile. The powers of vi and vj are computed once, by `powers::powers`, and looked up in the arrays xs and ys.
+#![tactic(auto)]
+
 ghost use Rattle.std.specs.Prelude.{◌≡◌, ◌+◌, ◌≤◌, min, T};
 ghost use Rattle.polynomial.specs.Terms.{factored, row, total, poly, poly_i, poly_ii, poly_j, poly_jj, poly_ij};
 ghost use Rattle.polynomial.specs.Sums.{step, over, none as none_of, first as first_of};
@@ -12,7 +14,7 @@ use crate::powers::power;
 pub mod powers;
 
 // How often a power is derived.
-#[derive(Drop)]
+#[derive(Clone, Copy)]
 pub enum Order {
     Not,
     Once,
@@ -20,7 +22,7 @@ pub enum Order {
 }
 
 // What is summed: terms with each power derived as the orders say; the shared sums; terms with one power; and those with that power's shared sums.
-#[derive(Drop)]
+#[derive(Clone, Copy)]
 pub enum Kind {
     Direct(Order, Order),
     Shared,
@@ -55,7 +57,7 @@ pub const ALONE_TWICE: u32 = 10;
 pub const ALONE_SHARED: u32 = 11;
 
 // The sums on the way: of the terms, and of the terms times what the derivatives by vi, by vj, twice by vi, by both and twice by vj bring down.
-#[derive(Drop)]
+#[derive(Clone, Copy)]
 pub struct Sums {
     pub zero: f64,
     pub i: f64,

@@ -85,7 +85,7 @@ const N: [f64; 43] = [
 ];
 
 // The ideal-gas part and its derivative in tau, as the entropy shares them.
-#[derive(Drop)]
+#[derive(Clone, Copy)]
 pub struct Ideal {
     pub part: f64,
     pub derived: f64,

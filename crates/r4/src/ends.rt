@@ -7,14 +7,14 @@ use common::boundaries::{B23_T2p, B23_p2T, Boundary, found};
 use common::constant::{P_MAX, P_MIN3, T_MAX1, T_MAX3, T_MIN};
 
 // An end is a double, or missing where the line that has it refuses.
-#[derive(Drop)]
+#[derive(Clone, Copy)]
 pub enum End {
     At(f64),
     Missing,
 }
 
 // How a pressure lies to an end.
-#[derive(Drop)]
+#[derive(Clone, Copy)]
 pub enum Beside {
     NoEnd,
     Below,

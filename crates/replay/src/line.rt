@@ -6,13 +6,13 @@ use vessel::saturation::{
     B23_pressure, B23_temperature, saturation_pressure, saturation_temperature,
 };
 
-#[derive(Drop)]
+#[derive(Clone, Copy)]
 pub enum Reply {
     Given(Answer),
     NotAnInput,
 }
 
-#[derive(Drop)]
+#[derive(Clone, Copy)]
 struct Input {
     call: u32,
     region: u32,
@@ -47,7 +47,7 @@ fn separated(line: &[u8; 47]) -> bool {
         && line[46] == b'\n'
 }
 
-#[derive(Drop)]
+#[derive(Clone, Copy)]
 enum Whole {
     Is(u32),
     Not,

@@ -1,5 +1,7 @@
 // Answers a list of inputs in bits, read from standard input: each line of it, and what the vessel answers.
 // A line is fixed in width: call, region, property, limit and two doubles, in hexadecimal digits with a space between.
+#![tactic(auto)]
+
 mod line;
 
 use crate::line::{Reply, answered};

@@ -6,7 +6,7 @@ use crate::bracket::{Bracket, Outcome};
 use float::sign::{abs, is_finite, same_sign};
 
 // The narrow rule, a named choice: the width below which a bracket is narrow.
-#[derive(Drop)]
+#[derive(Clone, Copy)]
 pub enum Width {
     // 1.0e-6
     Millionth,
@@ -15,7 +15,7 @@ pub enum Width {
 }
 
 // What one turn comes to: an end of the search, or the next bracket.
-#[derive(Drop)]
+#[derive(Clone, Copy)]
 pub enum Turn {
     Done(Outcome),
     Next(Bracket),

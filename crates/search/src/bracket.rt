@@ -6,7 +6,7 @@ ghost use Rattle.search.specs.Search.{refused as refused_of, opened as opened_of
 use float::sign::{is_finite, same_sign};
 
 // Two ends, and the residual at each.
-#[derive(Drop)]
+#[derive(Clone, Copy)]
 pub struct Bracket {
     pub x1: f64,
     pub x2: f64,
@@ -15,7 +15,7 @@ pub struct Bracket {
 }
 
 // An answer with its reason, or a refusal with its number: each with the bracket at its test, lower end first.
-#[derive(Drop)]
+#[derive(Clone, Copy)]
 pub enum Outcome {
     // value, bracket
     ExactEnd(f64, Bracket),
@@ -27,7 +27,7 @@ pub enum Outcome {
 }
 
 // How a search opens: it is closed already, or goes on from a bracket.
-#[derive(Drop)]
+#[derive(Clone, Copy)]
 pub enum Opening {
     Closed(Outcome),
     Open(Bracket),

@@ -6,7 +6,7 @@ use crate::bracket::{Bracket, Outcome, ordered, strictly_between};
 use float::sign::{abs, copysign, is_finite, min, same_sign};
 
 // Three points with their residuals, and the two remembered step lengths. b is the last point; b and c are the bracket.
-#[derive(Drop)]
+#[derive(Clone, Copy)]
 pub struct Brent {
     pub a: f64,
     pub b: f64,
@@ -18,26 +18,26 @@ pub struct Brent {
     pub e: f64,
 }
 
-#[derive(Drop)]
+#[derive(Clone, Copy)]
 pub struct Lengths {
     pub d: f64,
     pub e: f64,
 }
 
-#[derive(Drop)]
+#[derive(Clone, Copy)]
 pub struct Ratio {
     pub p: f64,
     pub q: f64,
 }
 
 // Where to evaluate next, or an end of the search.
-#[derive(Drop)]
+#[derive(Clone, Copy)]
 pub enum Aim {
     Stop(Outcome),
     At(Brent, f64),
 }
 
-#[derive(Drop)]
+#[derive(Clone, Copy)]
 pub enum BrentTurn {
     Ended(Outcome),
     On(Brent),

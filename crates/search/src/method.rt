@@ -1,7 +1,7 @@
 // The two searches by name: bisection with its narrow rule, or Brent's.
 use crate::bisection::Width;
 
-#[derive(Drop)]
+#[derive(Clone, Copy)]
 pub enum Method {
     ByBisection(Width),
     ByBrent,

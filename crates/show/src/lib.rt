@@ -1,4 +1,6 @@
 // How results are written: each double as the sixteen digits of its bits, an answer as its columns.
+#![tactic(auto)]
+
 use libc::STDOUT_FILENO;
 use search::bracket::Bracket;
 use vessel::answer::{Answer, Found};

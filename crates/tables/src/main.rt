@@ -1,4 +1,6 @@
 // The release's check values, Tables 5, 15, 35, 36 and 42 and B23's check point: each property's value to nine digits, and whether it agrees with the printed one.
+#![tactic(auto)]
+
 use common::boundaries::{B23_T2p, B23_p2T};
 use libc::STDOUT_FILENO;
 use r1::region1_pT::{pT2cp_reg1, pT2h_reg1, pT2s_reg1, pT2u_reg1, pT2v_reg1, pT2w_reg1};

@@ -8,7 +8,7 @@ use float::sign::is_finite;
 use search::bracket::{Bracket, Outcome};
 
 // A value that a search found: its steps, the bracket at its test, and whether the (p,T) rule has it inside.
-#[derive(Drop)]
+#[derive(Clone, Copy)]
 pub struct Found {
     pub value: f64,
     pub steps: u32,
@@ -17,7 +17,7 @@ pub struct Found {
 }
 
 // A number of document 01's table, the last point for 8 and else 0, the steps taken and the last bracket.
-#[derive(Drop)]
+#[derive(Clone, Copy)]
 pub struct Refusal {
     pub number: u32,
     pub value: f64,
@@ -25,7 +25,7 @@ pub struct Refusal {
     pub bracket: Bracket,
 }
 
-#[derive(Drop)]
+#[derive(Clone, Copy)]
 pub enum Answer {
     // of a call that does not search
     Value(Asked, f64),

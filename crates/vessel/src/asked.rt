@@ -6,7 +6,7 @@ use crate::property::Property;
 use pairs::row::{Pair, Region};
 
 // The kind of a call: after its two inputs, or after the coordinate of a line that it asks for.
-#[derive(Drop)]
+#[derive(Clone, Copy)]
 pub enum Kind {
     PT,
     SaturationPressure,
@@ -20,21 +20,21 @@ pub enum Kind {
 }
 
 // A call on a line names no region; a number of the C interface may name nothing.
-#[derive(Drop)]
+#[derive(Clone, Copy)]
 pub enum NamedRegion {
     Names(Region),
     Nothing,
 }
 
 // Only a call by (p,T) names a property.
-#[derive(Drop)]
+#[derive(Clone, Copy)]
 pub enum NamedProperty {
     Names(Property),
     Nothing,
 }
 
 // The inputs are in the call's order; the second is 0 where there is none.
-#[derive(Drop)]
+#[derive(Clone, Copy)]
 pub struct Asked {
     pub kind: Kind,
     pub region: NamedRegion,

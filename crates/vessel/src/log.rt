@@ -12,7 +12,7 @@ use pairs::row::Region;
 pub const LONGEST_LOG: usize = 4096;
 
 // The columns number and value of the call by (p,T).
-#[derive(Drop)]
+#[derive(Clone, Copy)]
 struct Reading {
     number: u32,
     value: f64,

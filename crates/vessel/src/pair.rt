@@ -21,7 +21,7 @@ pub const LARGEST_STEP_LIMIT: u32 = 65535;
 pub const STEP_LIMIT: u32 = 20000;
 
 // The region of (p,v), a choice of its own: this pair has these two regions only.
-#[derive(Drop)]
+#[derive(Clone, Copy)]
 pub enum PvRegion {
     One,
     Two,

@@ -19,7 +19,7 @@ use r5::region5_pT::{
 };
 
 // v in m^3/kg, u and h in kJ/kg, s, cp and cv in kJ/(kg K), w in m/s.
-#[derive(Drop)]
+#[derive(Clone, Copy)]
 pub enum Property {
     Volume,
     InternalEnergy,

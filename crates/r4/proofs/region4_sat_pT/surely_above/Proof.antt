@@ -28,7 +28,7 @@ returns-2 c e =
     let s = g.before.before.before in
     above_the_line s.args.T s.args.p g.root-guess.result
     (of_true (sym g.before.before.inside.ensures ∙ not-false g.before.before.inside.result g.before.if1.false))
-    (of_true s.well-formed.0.1)
+    (of_true s.well_formed.0.1)
     (of_true g.root-guess.type-inv)
     (record {
       square_above = of_true c.before.before.before.before.before.before.before.before.if2.true;

@@ -8,8 +8,7 @@ use Rattle.exact.specs.Operations.{◌⊘◌}
 use Rattle.float.specs.Sign.{nought, with_sign}
 use Rattle.float.specs.Power.{one}
 use Rattle.float.proofs.Signs.{zero_is, sign_below, sign_above}
-use Rattle.float.proofs.sign.is_sign_negative.Statement.{statement}
-use Rattle.float.proofs.sign.is_sign_negative.Tie as tie
+use Rattle.float.proofs.sign.is_sign_negative.Goals as goal
 
 zero-sign : (s : Bool) → lt (one ⊘ with_sign s nought) nought ≡ s
 unfolding lt div
@@ -23,15 +22,12 @@ by_sign_lem y h = go (lt y nought) refl
     go true e = sym (sign_below y e)
     go false e = sym (sign_above y h e)
 
-returns : tie.Need-returns
+pub returns-then-y : goal.returns-then-y
 unfolding of_bits
-returns c =
-    let y = c.before.args.y in
-    subst (λ (z : Float). lt (one ⊘ z) nought ≡ negative y) (sym (zero_is y (subst T (sym c.before.well-formed.0.1) tt) c.if1.true)) (zero-sign (negative y))
+returns-then-y c =
+    let y = c.args.y in
+    subst (λ (z : Float). lt (one ⊘ z) nought ≡ negative y) (sym (zero_is y (subst T (sym c.well_formed.0.1) tt) c.if-y.true)) (zero-sign (negative y))
 
-returns-2 : tie.Need-returns-2
+pub returns : goal.returns
 unfolding of_bits
-returns-2 c = by_sign_lem c.before.args.y c.if1.false
-
-pub is-sign-negative_spec : {M : Type 1} → statement M
-is-sign-negative_spec = tie.close (tie.spec returns returns-2)
+returns c = by_sign_lem c.args.y c.if-y.false

@@ -1,0 +1,23 @@
+-- `float::root::floor_root` meets its contract, whatever the guess is: a number whose square leaves no more than its double is the root, and where none was found the digit recurrence has it. Assumes nothing.
+use mathlib.Core.Path.{◌≡◌}
+use Prim.Native.Nat.{◌+◌, ◌*◌, ◌^◌, ◌≤◌}
+use native.Mathlib.Omega.{arith}
+use Rattle.float.specs.Root.{isqrt}
+use Rattle.float.proofs.RootSquares.{floor_only, isqrt_floor}
+use Rattle.float.proofs.root.floor_root.Goals as goal
+
+pub returns-then-r : goal.returns-then-r
+returns-then-r c =
+    let raises = c in
+    let tests = raises in
+    let squares = tests in
+    let m = squares.args.m in
+    let n = m * 2 ^ 44 in
+    let r = raises.raise-r.result in
+    let kept : r.root * r.root + r.rest ≡ n =
+    omega (arith, squares.square-s.ensures, tests.if-s-high.true, tests.if-s-left.true, raises.raise.ensures.0, raises.raise-r.ensures.0) in
+    let last : r.rest ≤ 2 * r.root = omega (arith, c.if-r.true) in
+    floor_only n r.root (isqrt 54 n) (omega arith, omega arith) (isqrt_floor 54 n (omega arith))
+
+pub returns : goal.returns
+returns c = c.digit_recurrence.ensures
