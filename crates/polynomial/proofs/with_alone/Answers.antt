@@ -1,0 +1,8 @@
+-- `polynomial::with_alone` meets its contract. Assumes nothing.
+use mir.Facts.{to_z-of_z}
+use Rattle.polynomial.proofs.with_alone.Goals as goal
+
+pub returns : goal.returns
+returns c =
+    let f = c in
+    rw (rw (to_z-of_z f.ranges.j) at f.plain-x.ensures, to_z-of_z f.ranges.j)
