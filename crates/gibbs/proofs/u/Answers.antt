@@ -1,0 +1,9 @@
+-- `gibbs::u` meets its contract: its operations are the definition's. Assumes nothing.
+use mathlib.Core.Path.{refl}
+use lib.Ieee.{of_bits}
+use Rattle.float.specs.Decimal.{rounded}
+use Rattle.gibbs.proofs.u.Goals as goal
+
+pub returns : goal.returns
+unfolding rounded of_bits
+returns c = refl

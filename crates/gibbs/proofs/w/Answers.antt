@@ -1,0 +1,8 @@
+-- `gibbs::w` meets its contract: its operations are the definition's. Assumes nothing.
+use lib.Ieee.{of_bits}
+use Rattle.float.specs.Decimal.{rounded}
+use Rattle.gibbs.proofs.w.Goals as goal
+
+pub returns : goal.returns
+unfolding rounded of_bits
+returns c = c.sqrt.ensures

@@ -1,0 +1,26 @@
+-- `r2::region2_gfe::polys_0_j_powi_reg2` meets its contract: the arrays are the table's columns, tested by computation, and what is left out changes nothing of what is read. Assumes nothing.
+use mathlib.Core.Path.{refl}
+use lib.Ieee.{of_bits}
+use Rattle.float.specs.Decimal.{rounded}
+use Rattle.polynomial.specs.Tables.{rows, all_in_range}
+use Rattle.polynomial.specs.Kinds.{divided, only_0_j}
+use Rattle.polynomial.proofs.Components.{sums_0_j}
+use Rattle.r2.specs.Table11.{table}
+use Rattle.r2.specs.Region2.{equation}
+use Rattle.r2.proofs.region2_gfe.polys_0_j_powi_reg2.Goals as goal
+
+pub tiles-s-requires : goal.tiles-s-requires
+unfolding all_in_range
+tiles-s-requires c =
+    let w = c in
+    (record { firsts = tt; seconds = tt; as_long_j = refl; as_long_n = refl }, w.powers-xs.ensures, w.powers-ys.ensures)
+
+pub returns : goal.returns
+unfolding table rows rounded of_bits
+returns c =
+    let d = c in
+    let t = d in
+    let n = t in
+    let a = n.args in
+    rw (c.only_0_j.ensures, d.divided.ensures, rw n.none.ensures at t.tiles-s.ensures)
+    (sums_0_j a.pi (equation.vj a.tau) equation.residual_terms)

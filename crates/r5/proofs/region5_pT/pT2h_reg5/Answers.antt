@@ -1,0 +1,11 @@
+-- `r5::region5_pT::pT2h_reg5` meets its contract: it is the property of both parts' sums. Assumes nothing.
+use lib.Ieee.{of_bits}
+use Rattle.float.specs.Decimal.{rounded}
+use Rattle.r5.proofs.Parts.{h_of_parts}
+use Rattle.r5.proofs.region5_pT.pT2h_reg5.Goals as goal
+
+pub returns : goal.returns
+unfolding rounded of_bits
+returns c =
+    let a = c.args in
+    rw (c.h.ensures, c.residual_reg5-residual.ensures, c.ideal_reg5-ideal.ensures) (h_of_parts a.p a.T)
