@@ -7,7 +7,5 @@ use Rattle.polynomial.proofs.direct.Goals as goal
 
 pub returns : goal.returns
 returns c =
-    let n = c in
-    let s = n in
-    let a = s.args in
-    ap (λ (x : Sums). x.zero) (rw n.none.ensures at c.tiles-s.ensures) ∙ direct_sums a.vi a.vj (rows a.is.now a.js.now a.ns.now) a.kind s.requires.0
+    let a = c.args in
+    ap (λ (x : Sums). x.zero) (rw c.none.ensures at c.tiles-s.ensures) ∙ direct_sums a.vi a.vj (rows a.is.now a.js.now a.ns.now) a.kind c.requires.0

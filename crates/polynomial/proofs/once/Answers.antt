@@ -10,13 +10,12 @@ use Rattle.polynomial.proofs.Exponents.{less-fits_back, less_back, less_kept}
 use Rattle.polynomial.proofs.once.Goals as goal
 
 pub overflow_sub-k : goal.overflow_sub-k
-overflow_sub-k c = let s = c in less-fits_back s.args.k s.requires.0 s.ranges.k 0 (omega arith)
+overflow_sub-k c = less-fits_back c.args.k c.requires.0 c.ranges.k 0 (omega arith)
 
 pub power-requires : goal.power-requires
-power-requires c = let s = c in rw (less_back s.args.k s.requires.0 s.ranges.k 0 (omega arith)) (less_kept s.args.k s.requires.0 0 (omega arith), s.requires.1)
+power-requires c = rw (less_back c.args.k c.requires.0 c.ranges.k 0 (omega arith)) (less_kept c.args.k c.requires.0 0 (omega arith), c.requires.1)
 
 pub returns : goal.returns
 returns c =
-    let s = c in
-    rw (to_z-of_z s.ranges.k)
-    (ap (λ (y : Float). s.args.x ⊗ whole s.args.k ⊗ y) (c.power.ensures ∙ ap (whole_power s.args.v) (less_back s.args.k s.requires.0 s.ranges.k 0 (omega arith))))
+    rw (to_z-of_z c.ranges.k)
+    (ap (λ (y : Float). c.args.x ⊗ whole c.args.k ⊗ y) (c.power.ensures ∙ ap (whole_power c.args.v) (less_back c.args.k c.requires.0 c.ranges.k 0 (omega arith))))

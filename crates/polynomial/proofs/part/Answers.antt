@@ -51,18 +51,14 @@ slice_bounds-tile-end-in-loop-start-2 c = let b = bounds (goal.at.slice_bounds-t
 
 pub tile-sums-requires : goal.tile-sums-requires
 tile-sums-requires c =
-    let u = c in
-    let l = u in
-    let s = l in
-    (columns-part l.loop-start.start u.cut-end.result s.args.is.now s.args.js.now s.args.ns.now s.requires.0, s.requires.1, s.requires.2)
+    (columns-part c.loop-start.start c.cut-end.result c.args.is.now c.args.js.now c.args.ns.now c.requires.0, c.requires.1, c.requires.2)
 
 pub loop-start-smaller : goal.loop-start-smaller
 loop-start-smaller c = let b = bounds (goal.at.loop-start-smaller c).After-cut-end in omega arith
 
 pub loop-start-preserved : goal.loop-start-preserved
 loop-start-preserved c =
-    let u = c in
-    summed_next _ _ _ _ _ u.loop-start.invariant (bounds (goal.at.loop-start-preserved c).After-cut-end) c.tile-sums.ensures
+    summed_next _ _ _ _ _ c.loop-start.invariant (bounds (goal.at.loop-start-preserved c).After-cut-end) c.tile-sums.ensures
 
 pub returns : goal.returns
 returns c = summed_all _ _ _ _ _ c.loop-start.invariant c.loop-start-test.false

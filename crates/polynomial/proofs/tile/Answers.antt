@@ -30,12 +30,10 @@ bounds-ns-k c = omega arith
 
 pub with_row-sums-requires : goal.with_row-sums-requires
 with_row-sums-requires c =
-    let at = c in
-    let s = at in
-    let fi : SFits w32 (get_or s.args.is.now at.loop-k.k (pos 0)) = record { sfits = c.with_row-arg-1.given } in
-    let fj : SFits w32 (get_or s.args.js.now at.loop-k.k (pos 0)) = record { sfits = c.with_row-arg-in-loop-k-1.given } in
+    let fi : SFits w32 (get_or c.args.is.now c.loop-k.k (pos 0)) = record { sfits = c.with_row-arg-1.given } in
+    let fj : SFits w32 (get_or c.args.js.now c.loop-k.k (pos 0)) = record { sfits = c.with_row-arg-in-loop-k-1.given } in
     rw (to_z-of_z fi, to_z-of_z fj)
-    (range_at s.args.is.now at.loop-k.k (pos 0) (omega arith) s.requires.0.firsts, range_at s.args.js.now at.loop-k.k (pos 0) (omega arith) s.requires.0.seconds, s.requires.1, s.requires.2)
+    (range_at c.args.is.now c.loop-k.k (pos 0) (omega arith) c.requires.0.firsts, range_at c.args.js.now c.loop-k.k (pos 0) (omega arith) c.requires.0.seconds, c.requires.1, c.requires.2)
 
 pub overflow_add-k : goal.overflow_add-k
 overflow_add-k c = omega arith
@@ -45,12 +43,11 @@ loop-k-smaller c = omega arith
 
 pub loop-k-preserved : goal.loop-k-preserved
 loop-k-preserved c =
-    let at = c in
-    let a = at.args in
-    let fi : SFits w32 (get_or a.is.now at.loop-k.k (pos 0)) = record { sfits = c.with_row-arg-1.given } in
-    let fj : SFits w32 (get_or a.js.now at.loop-k.k (pos 0)) = record { sfits = c.with_row-arg-in-loop-k-1.given } in
-    goes_on _ _ _ _ _ at.requires.0 at.loop-k.invariant c.loop-k-test.true
-    (rw (to_z-of_z fi, to_z-of_z fj) at c.with_row-sums.ensures)
+    let a = c.args in
+    let fi : SFits w32 (get_or a.is.now c.loop-k.k (pos 0)) = record { sfits = c.with_row-arg-1.given } in
+    let fj : SFits w32 (get_or a.js.now c.loop-k.k (pos 0)) = record { sfits = c.with_row-arg-in-loop-k-1.given } in
+    goes_on _ _ _ _ _ c.requires.0 c.loop-k.invariant c.loop-k-test.true
+    (rw (to_z-of_z fi, to_z-of_z fj) c c.with_row-sums.ensures)
 
 pub returns : goal.returns
 returns c = ends _ _ _ _ _ c.loop-k.invariant c.loop-k-test.false

@@ -16,13 +16,12 @@ pub overflow_mul-result : goal.overflow_mul-result
 overflow_mul-result c = pairs_fits_back c.args.k c.requires.0 c.ranges.k
 
 pub overflow_sub-k : goal.overflow_sub-k
-overflow_sub-k c = let s = c in less-fits_back s.args.k s.requires.0 s.ranges.k 1 (omega arith)
+overflow_sub-k c = less-fits_back c.args.k c.requires.0 c.ranges.k 1 (omega arith)
 
 pub power-requires : goal.power-requires
-power-requires c = let s = c in rw (less_back s.args.k s.requires.0 s.ranges.k 1 (omega arith)) (less_kept s.args.k s.requires.0 1 (omega arith), s.requires.1)
+power-requires c = rw (less_back c.args.k c.requires.0 c.ranges.k 1 (omega arith)) (less_kept c.args.k c.requires.0 1 (omega arith), c.requires.1)
 
 pub returns : goal.returns
 returns c =
-    let s = c in
-    ap (λ (z : ℤ). s.args.x ⊗ whole z ⊗ c.power.result) (pairs_back s.args.k s.requires.0 s.ranges.k)
-    ∙ ap (λ (y : Float). s.args.x ⊗ whole (s.args.k *ℤ (s.args.k -ℤ pos 1)) ⊗ y) (c.power.ensures ∙ ap (whole_power s.args.v) (less_back s.args.k s.requires.0 s.ranges.k 1 (omega arith)))
+    ap (λ (z : ℤ). c.args.x ⊗ whole z ⊗ c.power.result) (pairs_back c.args.k c.requires.0 c.ranges.k)
+    ∙ ap (λ (y : Float). c.args.x ⊗ whole (c.args.k *ℤ (c.args.k -ℤ pos 1)) ⊗ y) (c.power.ensures ∙ ap (whole_power c.args.v) (less_back c.args.k c.requires.0 c.ranges.k 1 (omega arith)))

@@ -4,5 +4,4 @@ use Rattle.polynomial.proofs.with_alone.Goals as goal
 
 pub returns : goal.returns
 returns c =
-    let f = c in
-    rw (rw (to_z-of_z f.ranges.j) at f.plain-x.ensures, to_z-of_z f.ranges.j)
+    rw (rw (to_z-of_z c.ranges.j) at c.plain-x.ensures, to_z-of_z c.ranges.j)

@@ -5,23 +5,21 @@ use Rattle.polynomial.proofs.Exponents.{less-fits_back, less_back, pairs_fits_ba
 use Rattle.polynomial.proofs.with_shared.Goals as goal
 
 pub overflow_sub-result : goal.overflow_sub-result
-overflow_sub-result c = let s = c in less-fits_back s.args.i s.requires.0 s.ranges.i 0 (omega arith)
+overflow_sub-result c = less-fits_back c.args.i c.requires.0 c.ranges.i 0 (omega arith)
 
 pub overflow_sub-result-2 : goal.overflow_sub-result-2
-overflow_sub-result-2 c = let s = c in less-fits_back s.args.j s.requires.1 s.ranges.j 0 (omega arith)
+overflow_sub-result-2 c = less-fits_back c.args.j c.requires.1 c.ranges.j 0 (omega arith)
 
 pub overflow_mul-result : goal.overflow_mul-result
-overflow_mul-result c = let s = c in pairs_fits_back s.args.j s.requires.1 s.ranges.j
+overflow_mul-result c = pairs_fits_back c.args.j c.requires.1 c.ranges.j
 
 pub returns : goal.returns
 returns c =
-    let t = c in
-    let s = t in
     rw (
-      rw (to_z-of_z s.ranges.j) at t.plain-x.ensures,
-      rw (to_z-of_z s.ranges.i) at t.plain-m.ensures,
-      less_back s.args.i s.requires.0 s.ranges.i 0 (omega arith),
-      pairs_back s.args.j s.requires.1 s.ranges.j,
-      to_z-of_z s.ranges.i,
-      to_z-of_z s.ranges.j,
+      rw (to_z-of_z c.ranges.j) at c.plain-x.ensures,
+      rw (to_z-of_z c.ranges.i) at c.plain-m.ensures,
+      less_back c.args.i c.requires.0 c.ranges.i 0 (omega arith),
+      pairs_back c.args.j c.requires.1 c.ranges.j,
+      to_z-of_z c.ranges.i,
+      to_z-of_z c.ranges.j,
     )

@@ -73,20 +73,16 @@ difference-requires c = (omega (arith, up_of (goal.at.difference-requires c).Aft
 pub returns-then-x-2 : goal.returns-then-x-2
 unfolding of_parts of_row
 returns-then-x-2 c =
-    let m2 = c in
-    let m1 = m2 in
-    let f = m1 in
-    let w = f in
-    let x = w.args.x in
+    let x = c.args.x in
     let e = to_bits binary64 x / 2 ^ 52 in
     let t = to_bits binary64 x % 2 ^ 52 in
     let k = reciprocal (t / 2 ^ 46) in
     c.difference.ensures
-    ∙ ap (λ (n : ℕ). difference (w.row-c.result % 2 ^ 56 + n * ln2) (f.fallen-s.result / 2 ^ 8 + m2.monus-then-x-2.result * ln2)) m1.monus.ensures
-    ∙ ap (λ (n : ℕ). difference (w.row-c.result % 2 ^ 56 + (e - 1023) * ln2) (f.fallen-s.result / 2 ^ 8 + n * ln2)) m2.monus-then-x-2.ensures
-    ∙ ap (λ (n : ℕ). difference (n + (e - 1023) * ln2) (f.fallen-s.result / 2 ^ 8 + (1023 - e) * ln2)) w.row-c.ensures.1
-    ∙ ap (λ (n : ℕ). difference (minus_log k + (e - 1023) * ln2) (n / 2 ^ 8 + (1023 - e) * ln2)) (f.fallen-s.ensures ∙ ap (λ (r : ℕ). fallen ((2 ^ 60 - (2 ^ 52 + t) * r) * 2 ^ 4)) w.row-c.ensures.0)
-    ∙ sym (ln_in x w.if-x.true w.if-x-2.true)
+    ∙ ap (λ (n : ℕ). difference (c.row-c.result % 2 ^ 56 + n * ln2) (c.fallen-s.result / 2 ^ 8 + c.monus-then-x-2.result * ln2)) c.monus.ensures
+    ∙ ap (λ (n : ℕ). difference (c.row-c.result % 2 ^ 56 + (e - 1023) * ln2) (c.fallen-s.result / 2 ^ 8 + n * ln2)) c.monus-then-x-2.ensures
+    ∙ ap (λ (n : ℕ). difference (n + (e - 1023) * ln2) (c.fallen-s.result / 2 ^ 8 + (1023 - e) * ln2)) c.row-c.ensures.1
+    ∙ ap (λ (n : ℕ). difference (minus_log k + (e - 1023) * ln2) (n / 2 ^ 8 + (1023 - e) * ln2)) (c.fallen-s.ensures ∙ ap (λ (r : ℕ). fallen ((2 ^ 60 - (2 ^ 52 + t) * r) * 2 ^ 4)) c.row-c.ensures.0)
+    ∙ sym (ln_in x c.if-x.true c.if-x-2.true)
 
 pub returns-else-x-2 : goal.returns-else-x-2
 unfolding div of_bits

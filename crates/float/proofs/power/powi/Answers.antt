@@ -18,31 +18,24 @@ returns-then-n-eqminus2147483648 c = ap (λ (r : Float). one ⊘ r) c.raised.ens
 
 pub overflow_sub-n : goal.overflow_sub-n
 overflow_sub-n c =
-    let s = c in
-    subst (SFits w32) (sym (negated s.ranges.n c.if-n-lt0.true c.if-n-eqminus2147483648.false)) (negated_fits s.ranges.n c.if-n-lt0.true c.if-n-eqminus2147483648.false)
+    subst (SFits w32) (sym (negated c.ranges.n c.if-n-lt0.true c.if-n-eqminus2147483648.false)) (negated_fits c.ranges.n c.if-n-lt0.true c.if-n-eqminus2147483648.false)
 
 pub overflow_cast-n : goal.overflow_cast-n
 overflow_cast-n c =
-    let s = c in
-    subst (λ (z : ℤ). T (non_neg z) × Fits w32 (nat_abs z)) (sym (read_back s.ranges.n c.if-n-lt0.true c.if-n-eqminus2147483648.false))
-    (tt, Fits-nat_abs tt (negated_fits s.ranges.n c.if-n-lt0.true c.if-n-eqminus2147483648.false))
+    subst (λ (z : ℤ). T (non_neg z) × Fits w32 (nat_abs z)) (sym (read_back c.ranges.n c.if-n-lt0.true c.if-n-eqminus2147483648.false))
+    (tt, Fits-nat_abs tt (negated_fits c.ranges.n c.if-n-lt0.true c.if-n-eqminus2147483648.false))
 
 pub overflow_cast-n-else-n-lt0 : goal.overflow_cast-n-else-n-lt0
 overflow_cast-n-else-n-lt0 c =
-    let s = c in
-    subst (λ (z : ℤ). T (non_neg z) × Fits w32 (nat_abs z)) (sym (to_z-of_z s.ranges.n)) (not-below s.args.n (rw (to_z-of_z s.ranges.n) at c.if-n-lt0.false), Fits-nat_abs tt s.ranges.n)
+    subst (λ (z : ℤ). T (non_neg z) × Fits w32 (nat_abs z)) (sym (to_z-of_z c.ranges.n)) (not-below c.args.n (rw (to_z-of_z c.ranges.n) at c.if-n-lt0.false), Fits-nat_abs tt c.ranges.n)
 
 pub returns-then-n-lt0 : goal.returns-then-n-lt0
 unfolding of_bits
 returns-then-n-lt0 c =
-    let i = c in
-    let s = i in
-    ap (λ (r : Float). one ⊘ r) (c.raised-then-n-lt0.ensures ∙ ap (λ (z : ℤ). raised s.args.x (nat_abs z)) (read_back s.ranges.n i.if-n-lt0.true i.if-n-eqminus2147483648.false))
-    ∙ below s.args.x s.args.n (under s.ranges.n i.if-n-lt0.true i.if-n-eqminus2147483648.false)
+    ap (λ (r : Float). one ⊘ r) (c.raised-then-n-lt0.ensures ∙ ap (λ (z : ℤ). raised c.args.x (nat_abs z)) (read_back c.ranges.n c.if-n-lt0.true c.if-n-eqminus2147483648.false))
+    ∙ below c.args.x c.args.n (under c.ranges.n c.if-n-lt0.true c.if-n-eqminus2147483648.false)
 
 pub returns-else-n-lt0 : goal.returns-else-n-lt0
 returns-else-n-lt0 c =
-    let i = c in
-    let s = i in
-    c.raised-else-n-lt0.ensures ∙ ap (λ (z : ℤ). raised s.args.x (nat_abs z)) (to_z-of_z s.ranges.n)
-    ∙ above s.args.x s.args.n (rw (to_z-of_z s.ranges.n) at i.if-n-lt0.false)
+    c.raised-else-n-lt0.ensures ∙ ap (λ (z : ℤ). raised c.args.x (nat_abs z)) (to_z-of_z c.ranges.n)
+    ∙ above c.args.x c.args.n (rw (to_z-of_z c.ranges.n) at c.if-n-lt0.false)

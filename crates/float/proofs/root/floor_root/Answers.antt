@@ -8,14 +8,11 @@ use Rattle.float.proofs.root.floor_root.Goals as goal
 
 pub returns-then-r : goal.returns-then-r
 returns-then-r c =
-    let raises = c in
-    let tests = raises in
-    let squares = tests in
-    let m = squares.args.m in
+    let m = c.args.m in
     let n = m * 2 ^ 44 in
-    let r = raises.raise-r.result in
+    let r = c.raise-r.result in
     let kept : r.root * r.root + r.rest ≡ n =
-    omega (arith, squares.square-s.ensures, tests.if-s-high.true, tests.if-s-left.true, raises.raise.ensures.0, raises.raise-r.ensures.0) in
+    omega (arith, c.square-s.ensures, c.if-s-high.true, c.if-s-left.true, c.raise.ensures.0, c.raise-r.ensures.0) in
     let last : r.rest ≤ 2 * r.root = omega (arith, c.if-r.true) in
     floor_only n r.root (isqrt 54 n) (omega arith, omega arith) (isqrt_floor 54 n (omega arith))
 

@@ -19,8 +19,7 @@ zs c = zeros c.if-field-gt0.m (sig c).some (sig c).few
 
 got : (c : After-floor_root-q) → Bits c.args.b (result (count_leading_zeros 64 c.if-field-gt0.m) c.if-field-gt0.j c.floor_root-q.result) c.floor_root-q.result
 got c =
-    let j = c in
-    found j.args.b j.if-field-gt0.m j.if-field-gt0.j (count_leading_zeros 64 j.if-field-gt0.m) c.floor_root-q.result (sig j.before.before.before) refl c.floor_root-q.ensures
+    found c.args.b c.if-field-gt0.m c.if-field-gt0.j (count_leading_zeros 64 c.if-field-gt0.m) c.floor_root-q.result (sig c.before.before.before) refl c.floor_root-q.ensures
 
 pub overflow_cast-z : goal.overflow_cast-z
 overflow_cast-z c = omega (arith, (zs (goal.at.overflow_cast-z c).Joined-field-gt0).most)

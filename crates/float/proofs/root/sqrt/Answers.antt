@@ -43,5 +43,4 @@ float_from_bits-result c = not_nan_bits c.root_bits.result c.root_bits.ensures.0
 
 pub returns : goal.returns
 returns c =
-    let s = c in
-    c.root_bits.ensures.1 ∙ ap square_root (of_bits-to_bits binary64 s.args.x (held (goal.at.returns c).Start))
+    c.root_bits.ensures.1 ∙ ap square_root (of_bits-to_bits binary64 c.args.x (held (goal.at.returns c).Start))

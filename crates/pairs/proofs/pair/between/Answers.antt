@@ -18,15 +18,13 @@ through q low high limit h = rw h (sym (opening (end_rows (ends (residual q) low
 
 pub returns-in-Closed : goal.returns-in-Closed
 returns-in-Closed c =
-    let r = c in
-    let a = r.args in
-    rw (through a.question a.low a.high a.limit r.if-low-high.true, ← r.residual-r1.ensures, ← r.residual-r2.ensures, ← c.opened-opening.ensures, c.in-Closed.is)
+    let a = c.args in
+    rw (through a.question a.low a.high a.limit c.if-low-high.true, ← c.residual-r1.ensures, ← c.residual-r2.ensures, ← c.opened-opening.ensures, c.in-Closed.is)
 
 pub returns-in-Open : goal.returns-in-Open
 returns-in-Open c =
-    let r = c in
-    let a = r.args in
-    rw (through a.question a.low a.high a.limit r.if-low-high.true, ← r.residual-r1.ensures, ← r.residual-r2.ensures, ← c.opened-opening.ensures, c.in-Open.is)
+    let a = c.args in
+    rw (through a.question a.low a.high a.limit c.if-low-high.true, ← c.residual-r1.ensures, ← c.residual-r2.ensures, ← c.opened-opening.ensures, c.in-Open.is)
     c.steps.ensures
 
 pub returns : goal.returns

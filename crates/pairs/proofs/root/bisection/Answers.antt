@@ -27,32 +27,26 @@ at_turn c = rw (← c.outside.ensures, c.if-outside.false, c.turn.ensures, c.res
 pub returns-then-outside : goal.returns-then-outside
 unfolding of_bits
 returns-then-outside c =
-    let l = c in
-    sym (loop_stop (next (width_of l.args.rule) (residual l.args.question)) spent l.args.limit l.loop-n.b l.loop-n.n _ c.loop-n-test.true (at-refusal (goal.at.returns-then-outside c).Then-outside))
-    ∙ l.loop-n.invariant.1
+    sym (loop_stop (next (width_of c.args.rule) (residual c.args.question)) spent c.args.limit c.loop-n.b c.loop-n.n _ c.loop-n-test.true (at-refusal (goal.at.returns-then-outside c).Then-outside))
+    ∙ c.loop-n.invariant.1
 
 pub returns-in-Done : goal.returns-in-Done
 returns-in-Done c =
-    let t = c in
-    let l = t in
-    sym (loop_stop (next (width_of l.args.rule) (residual l.args.question)) spent l.args.limit l.loop-n.b l.loop-n.n _ t.loop-n-test.true
+    sym (loop_stop (next (width_of c.args.rule) (residual c.args.question)) spent c.args.limit c.loop-n.b c.loop-n.n _ c.loop-n-test.true
     (at_turn (goal.at.returns-in-Done c).After-turn ∙ ap turn_go c.in-Done.is))
-    ∙ l.loop-n.invariant.1
+    ∙ c.loop-n.invariant.1
 
 pub loop-n-preserved : goal.loop-n-preserved
-loop-n-preserved c =
-    let t = c in
-    let l = t in (
+loop-n-preserved c = (
       search rules,
-      sym (loop_go (next (width_of l.args.rule) (residual l.args.question)) spent l.args.limit l.loop-n.b l.loop-n.n _ t.loop-n-test.true
+      sym (loop_go (next (width_of c.args.rule) (residual c.args.question)) spent c.args.limit c.loop-n.b c.loop-n.n _ c.loop-n-test.true
           (at_turn (goal.at.loop-n-preserved c).After-turn ∙ ap turn_go c.in-Next.is))
-          ∙ l.loop-n.invariant.1,
+          ∙ c.loop-n.invariant.1,
     )
 
 pub returns : goal.returns
 unfolding spent
 returns c =
-    let l = c in
     rw c.middle-2.ensures
-    (sym (loop_spent (next (width_of l.args.rule) (residual l.args.question)) spent l.args.limit l.loop-n.b l.loop-n.n c.loop-n-test.false)
-    ∙ l.loop-n.invariant.1)
+    (sym (loop_spent (next (width_of c.args.rule) (residual c.args.question)) spent c.args.limit c.loop-n.b c.loop-n.n c.loop-n-test.false)
+    ∙ c.loop-n.invariant.1)

@@ -26,30 +26,24 @@ at-step c = rw (sym c.aim.ensures ∙ c.in-At.is, c.step.ensures, c.residual-r.e
 
 pub returns-in-Stop : goal.returns-in-Stop
 returns-in-Stop c =
-    let l = c in
-    sym (loop_stop (next (residual l.args.question)) spent l.args.limit l.loop-n.s l.loop-n.n _ c.loop-n-test.true (at-stop (goal.at.returns-in-Stop c).In-Stop))
-    ∙ l.loop-n.invariant.1 ∙ whole (goal.at.returns-in-Stop c).At-loop-n
+    sym (loop_stop (next (residual c.args.question)) spent c.args.limit c.loop-n.s c.loop-n.n _ c.loop-n-test.true (at-stop (goal.at.returns-in-Stop c).In-Stop))
+    ∙ c.loop-n.invariant.1 ∙ whole (goal.at.returns-in-Stop c).At-loop-n
 
 pub returns-in-Ended : goal.returns-in-Ended
 returns-in-Ended c =
-    let t = c in
-    let l = t in
-    sym (loop_stop (next (residual l.args.question)) spent l.args.limit l.loop-n.s l.loop-n.n _ t.loop-n-test.true (at-step (goal.at.returns-in-Ended c).After-step ∙ ap turn_go c.in-Ended.is))
-    ∙ l.loop-n.invariant.1 ∙ whole (goal.at.returns-in-Ended c).At-loop-n
+    sym (loop_stop (next (residual c.args.question)) spent c.args.limit c.loop-n.s c.loop-n.n _ c.loop-n-test.true (at-step (goal.at.returns-in-Ended c).After-step ∙ ap turn_go c.in-Ended.is))
+    ∙ c.loop-n.invariant.1 ∙ whole (goal.at.returns-in-Ended c).At-loop-n
 
 pub loop-n-preserved : goal.loop-n-preserved
-loop-n-preserved c =
-    let t = c in
-    let l = t in (
+loop-n-preserved c = (
       search rules,
-      sym (loop_go (next (residual l.args.question)) spent l.args.limit l.loop-n.s l.loop-n.n _ t.loop-n-test.true (at-step (goal.at.loop-n-preserved c).After-step ∙ ap turn_go c.in-On.is))
-          ∙ l.loop-n.invariant.1,
+      sym (loop_go (next (residual c.args.question)) spent c.args.limit c.loop-n.s c.loop-n.n _ c.loop-n-test.true (at-step (goal.at.loop-n-preserved c).After-step ∙ ap turn_go c.in-On.is))
+          ∙ c.loop-n.invariant.1,
     )
 
 pub returns : goal.returns
 unfolding spent
 returns c =
-    let l = c in
     rw c.bracket.ensures
-    (sym (loop_spent (next (residual l.args.question)) spent l.args.limit l.loop-n.s l.loop-n.n c.loop-n-test.false)
-    ∙ l.loop-n.invariant.1 ∙ whole (goal.at.returns c).At-loop-n)
+    (sym (loop_spent (next (residual c.args.question)) spent c.args.limit c.loop-n.s c.loop-n.n c.loop-n-test.false)
+    ∙ c.loop-n.invariant.1 ∙ whole (goal.at.returns c).At-loop-n)

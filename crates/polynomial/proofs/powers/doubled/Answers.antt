@@ -31,11 +31,10 @@ loop-i-smaller c = omega arith
 
 pub loop-i-preserved : goal.loop-i-preserved
 loop-i-preserved c =
-    let l = c.loop-i in
-    let s = c in (
+    let l = c.loop-i in (
       length-set l.q _ _ ∙ l.invariant.0,
       omega arith,
-      filled_next s.args.x s.args.sq s.args.h s.args.high l.i l.q l.invariant.0 s.requires.0 s.requires.1 s.requires.2 c.loop-i-test.true l.invariant.2,
+      filled_next c.args.x c.args.sq c.args.h c.args.high l.i l.q l.invariant.0 c.requires.0 c.requires.1 c.requires.2 c.loop-i-test.true l.invariant.2,
     )
 
 pub returns : goal.returns

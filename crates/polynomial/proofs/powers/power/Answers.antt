@@ -24,64 +24,53 @@ wide : (n : ℕ) → n ≤ 63 → Fits w64 n
 wide n h = record { fits = omega arith }
 
 back : (c : Then-k-lt0) → to_z w32 (of_z w32 (pos 0 -ℤ to_z w32 (of_z w32 c.args.k))) ≡ pos (nat_abs c.args.k)
-back c = let s = c in read_back s.ranges.k c.if-k-lt0.true (not_least s.args.k (kept s.args.k s.requires.0))
+back c = read_back c.ranges.k c.if-k-lt0.true (not_least c.args.k (kept c.args.k c.requires.0))
 
 pub overflow_sub-m : goal.overflow_sub-m
 overflow_sub-m c =
-    let s = c in
-    let l = not_least s.args.k (kept s.args.k s.requires.0) in
-    subst (SFits w32) (sym (negated s.ranges.k c.if-k-lt0.true l)) (negated_fits s.ranges.k c.if-k-lt0.true l)
+    let l = not_least c.args.k (kept c.args.k c.requires.0) in
+    subst (SFits w32) (sym (negated c.ranges.k c.if-k-lt0.true l)) (negated_fits c.ranges.k c.if-k-lt0.true l)
 
 pub overflow_cast-m : goal.overflow_cast-m
 overflow_cast-m c =
-    let s = c in
-    subst (λ (z : ℤ). T (non_neg z) × Fits w64 (nat_abs z)) (sym (back (goal.at.overflow_cast-m c).Then-k-lt0)) (tt, wide (nat_abs s.args.k) (kept s.args.k s.requires.0))
+    subst (λ (z : ℤ). T (non_neg z) × Fits w64 (nat_abs z)) (sym (back (goal.at.overflow_cast-m c).Then-k-lt0)) (tt, wide (nat_abs c.args.k) (kept c.args.k c.requires.0))
 
 pub offset_bounds-xs-m : goal.offset_bounds-xs-m
 offset_bounds-xs-m c =
-    let s = c in
-    let h = kept s.args.k s.requires.0 in
+    let h = kept c.args.k c.requires.0 in
     subst (λ (z : ℤ). Fits w64 (nat_abs z * 8)) (sym (back (goal.at.offset_bounds-xs-m c).Then-k-lt0)) (record { fits = omega arith })
 
 pub bounds-xs-m : goal.bounds-xs-m
 bounds-xs-m c =
-    let s = c in
-    let h = kept s.args.k s.requires.0 in
+    let h = kept c.args.k c.requires.0 in
     subst (λ (z : ℤ). nat_abs z < 64) (sym (back (goal.at.bounds-xs-m c).Then-k-lt0)) (omega arith)
 
 pub returns-then-k-lt0 : goal.returns-then-k-lt0
 unfolding of_bits
 returns-then-k-lt0 c =
-    let i = c in
-    let s = i in
-    let h = kept s.args.k s.requires.0 in
-    ap (λ (z : ℤ). one ⊘ get_or s.args.xs.now (nat_abs z) nan) (back (goal.at.returns-then-k-lt0 c).Then-k-lt0)
-    ∙ ap (λ (y : Float). one ⊘ y) ((ap (λ (ps : List Float). get_or ps (nat_abs s.args.k) nan) s.requires.1 ∙ power_at s.args.x (nat_abs s.args.k) (omega arith)))
-    ∙ below s.args.x s.args.k (under s.ranges.k i.if-k-lt0.true (not_least s.args.k h))
+    let h = kept c.args.k c.requires.0 in
+    ap (λ (z : ℤ). one ⊘ get_or c.args.xs.now (nat_abs z) nan) (back (goal.at.returns-then-k-lt0 c).Then-k-lt0)
+    ∙ ap (λ (y : Float). one ⊘ y) ((ap (λ (ps : List Float). get_or ps (nat_abs c.args.k) nan) c.requires.1 ∙ power_at c.args.x (nat_abs c.args.k) (omega arith)))
+    ∙ below c.args.x c.args.k (under c.ranges.k c.if-k-lt0.true (not_least c.args.k h))
 
 pub overflow_cast-m-2 : goal.overflow_cast-m-2
 overflow_cast-m-2 c =
-    let s = c in
-    subst (λ (z : ℤ). T (non_neg z) × Fits w64 (nat_abs z)) (sym (to_z-of_z s.ranges.k))
-    (not-below s.args.k (rw (to_z-of_z s.ranges.k) at c.if-k-lt0.false), wide (nat_abs s.args.k) (kept s.args.k s.requires.0))
+    subst (λ (z : ℤ). T (non_neg z) × Fits w64 (nat_abs z)) (sym (to_z-of_z c.ranges.k))
+    (not-below c.args.k (rw (to_z-of_z c.ranges.k) at c.if-k-lt0.false), wide (nat_abs c.args.k) (kept c.args.k c.requires.0))
 
 pub offset_bounds-xs-m-2 : goal.offset_bounds-xs-m-2
 offset_bounds-xs-m-2 c =
-    let s = c in
-    let h = kept s.args.k s.requires.0 in
-    subst (λ (z : ℤ). Fits w64 (nat_abs z * 8)) (sym (to_z-of_z s.ranges.k)) (record { fits = omega arith })
+    let h = kept c.args.k c.requires.0 in
+    subst (λ (z : ℤ). Fits w64 (nat_abs z * 8)) (sym (to_z-of_z c.ranges.k)) (record { fits = omega arith })
 
 pub bounds-xs-m-2 : goal.bounds-xs-m-2
 bounds-xs-m-2 c =
-    let s = c in
-    let h = kept s.args.k s.requires.0 in
-    subst (λ (z : ℤ). nat_abs z < 64) (sym (to_z-of_z s.ranges.k)) (omega arith)
+    let h = kept c.args.k c.requires.0 in
+    subst (λ (z : ℤ). nat_abs z < 64) (sym (to_z-of_z c.ranges.k)) (omega arith)
 
 pub returns : goal.returns
 returns c =
-    let i = c in
-    let s = i in
-    let h = kept s.args.k s.requires.0 in
-    ap (λ (z : ℤ). get_or s.args.xs.now (nat_abs z) nan) (to_z-of_z s.ranges.k)
-    ∙ (ap (λ (ps : List Float). get_or ps (nat_abs s.args.k) nan) s.requires.1 ∙ power_at s.args.x (nat_abs s.args.k) (omega arith))
-    ∙ above s.args.x s.args.k (rw (to_z-of_z s.ranges.k) at i.if-k-lt0.false)
+    let h = kept c.args.k c.requires.0 in
+    ap (λ (z : ℤ). get_or c.args.xs.now (nat_abs z) nan) (to_z-of_z c.ranges.k)
+    ∙ (ap (λ (ps : List Float). get_or ps (nat_abs c.args.k) nan) c.requires.1 ∙ power_at c.args.x (nat_abs c.args.k) (omega arith))
+    ∙ above c.args.x c.args.k (rw (to_z-of_z c.ranges.k) at c.if-k-lt0.false)

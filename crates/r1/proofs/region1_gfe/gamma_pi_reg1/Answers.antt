@@ -10,8 +10,7 @@ use Rattle.r1.proofs.region1_gfe.gamma_pi_reg1.Goals as goal
 pub poly_i_powi_steps-requires : goal.poly_i_powi_steps-requires
 unfolding all_in_range
 poly_i_powi_steps-requires c =
-    let w = c in
-    (record { firsts = tt; seconds = tt; as_long_j = refl; as_long_n = refl }, w.powers-xs.ensures, w.powers-ys.ensures)
+    (record { firsts = tt; seconds = tt; as_long_j = refl; as_long_n = refl }, c.powers-xs.ensures, c.powers-ys.ensures)
 
 pub returns : goal.returns
 unfolding gamma_pi table rows rounded of_bits

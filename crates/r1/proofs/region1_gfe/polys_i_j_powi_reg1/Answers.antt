@@ -13,15 +13,11 @@ use Rattle.r1.proofs.region1_gfe.polys_i_j_powi_reg1.Goals as goal
 pub tiles-s-requires : goal.tiles-s-requires
 unfolding all_in_range
 tiles-s-requires c =
-    let w = c in
-    (record { firsts = tt; seconds = tt; as_long_j = refl; as_long_n = refl }, w.powers-xs.ensures, w.powers-ys.ensures)
+    (record { firsts = tt; seconds = tt; as_long_j = refl; as_long_n = refl }, c.powers-xs.ensures, c.powers-ys.ensures)
 
 pub returns : goal.returns
 unfolding derivatives table rows rounded of_bits
 returns c =
-    let d = c in
-    let t = d in
-    let n = t in
-    let a = n.args in
-    rw (c.only_i_j.ensures, c.turned.ensures, d.divided.ensures, rw n.none.ensures at t.tiles-s.ensures)
+    let a = c.args in
+    rw (c.only_i_j.ensures, c.turned.ensures, c.divided.ensures, rw c.none.ensures at c.tiles-s.ensures)
     (ap (λ (x : Sums). only_i_j (turned x)) (sums_i_j (vi a.pi) (vj a.tau) terms))

@@ -17,16 +17,13 @@ use Rattle.r2.proofs.region2_gfe.gamma0_shared_reg2.Goals as goal
 pub tile-s-requires : goal.tile-s-requires
 unfolding all_in_range
 tile-s-requires c =
-    let w = c in
-    (record { firsts = tt; seconds = tt; as_long_j = refl; as_long_n = refl }, w.powers-ys.ensures, w.powers-ys.ensures)
+    (record { firsts = tt; seconds = tt; as_long_j = refl; as_long_n = refl }, c.powers-ys.ensures, c.powers-ys.ensures)
 
 pub returns : goal.returns
 unfolding table rows rounded of_bits step_of
 returns c =
-    let t = c in
-    let l = t in
-    let a = l.args in
+    let a = c.args in
     let s : Sums = record { zero = logarithm a.pi; i = none.i; j = none.j; ii = none.ii; ij = none.ij; jj = none.jj } in
-    let sums : t.tile-s.result ≡ over (step AloneShared a.tau a.tau) s equation.ideal_terms = rw l.ln.ensures at t.tile-s.ensures in
+    let sums : c.tile-s.result ≡ over (step AloneShared a.tau a.tau) s equation.ideal_terms = rw c.ln.ensures at c.tile-s.ensures in
     let own = alone-shared-sum a.tau a.tau s equation.ideal_terms in
     rw (sums, own.0, own.1)

@@ -16,12 +16,10 @@ use Rattle.r2.proofs.region2_gfe.gamma0_tau_reg2.Goals as goal
 pub tile-s-requires : goal.tile-s-requires
 unfolding all_in_range
 tile-s-requires c =
-    let w = c in
-    (record { firsts = tt; seconds = tt; as_long_j = refl; as_long_n = refl }, w.powers-ys.ensures, w.powers-ys.ensures)
+    (record { firsts = tt; seconds = tt; as_long_j = refl; as_long_n = refl }, c.powers-ys.ensures, c.powers-ys.ensures)
 
 pub returns : goal.returns
 unfolding table rows rounded of_bits step_of
 returns c =
-    let n = c in
-    let τ = n.args.tau in
-    ap (λ (s : Sums). s.zero) (rw n.none.ensures at c.tile-s.ensures) ∙ alone-sum τ τ none equation.ideal_terms Once
+    let τ = c.args.tau in
+    ap (λ (s : Sums). s.zero) (rw c.none.ensures at c.tile-s.ensures) ∙ alone-sum τ τ none equation.ideal_terms Once

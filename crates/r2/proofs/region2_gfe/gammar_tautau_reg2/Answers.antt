@@ -9,8 +9,7 @@ use Rattle.r2.proofs.region2_gfe.gammar_tautau_reg2.Goals as goal
 pub poly_jj_powi_steps-requires : goal.poly_jj_powi_steps-requires
 unfolding all_in_range
 poly_jj_powi_steps-requires c =
-    let w = c in
-    (record { firsts = tt; seconds = tt; as_long_j = refl; as_long_n = refl }, w.powers-xs.ensures, w.powers-ys.ensures)
+    (record { firsts = tt; seconds = tt; as_long_j = refl; as_long_n = refl }, c.powers-xs.ensures, c.powers-ys.ensures)
 
 pub returns : goal.returns
 unfolding table rows rounded of_bits

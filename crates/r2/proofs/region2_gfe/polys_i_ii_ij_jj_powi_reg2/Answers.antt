@@ -12,15 +12,11 @@ use Rattle.r2.proofs.region2_gfe.polys_i_ii_ij_jj_powi_reg2.Goals as goal
 pub tiles-s-requires : goal.tiles-s-requires
 unfolding all_in_range
 tiles-s-requires c =
-    let w = c in
-    (record { firsts = tt; seconds = tt; as_long_j = refl; as_long_n = refl }, w.powers-xs.ensures, w.powers-ys.ensures)
+    (record { firsts = tt; seconds = tt; as_long_j = refl; as_long_n = refl }, c.powers-xs.ensures, c.powers-ys.ensures)
 
 pub returns : goal.returns
 unfolding table rows rounded of_bits
 returns c =
-    let d = c in
-    let t = d in
-    let n = t in
-    let a = n.args in
-    rw (c.only_i_ii_ij_jj.ensures, d.divided.ensures, rw n.none.ensures at t.tiles-s.ensures)
+    let a = c.args in
+    rw (c.only_i_ii_ij_jj.ensures, c.divided.ensures, rw c.none.ensures at c.tiles-s.ensures)
     (sums_i_ii_ij_jj a.pi (equation.vj a.tau) equation.residual_terms)

@@ -12,12 +12,10 @@ returns-then-not-inside c e = absurd (true≢false (sym e))
 pub returns-then-a : goal.returns-then-a
 unfolding rounded of_bits neg
 returns-then-a c e =
-    let g = c in
-    let s = g in
-    above_the_line s.args.T s.args.p g.root_guess-root.result
-    (of_true (sym g.inside.ensures ∙ g.if-not-inside.false))
-    (of_true s.well_formed.0.1)
-    (of_true g.root_guess-root.type_inv)
+    above_the_line c.args.T c.args.p c.root_guess-root.result
+    (of_true (sym c.inside.ensures ∙ c.if-not-inside.false))
+    (of_true c.well_formed.0.1)
+    (of_true c.root_guess-root.type_inv)
     (record {
       square_above = of_true c.if-low.true;
       square_below = of_true c.if-low-square.true;

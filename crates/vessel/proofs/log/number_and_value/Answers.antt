@@ -17,11 +17,9 @@ computed c = c.formula-result.ensures
 pub returns-then-not-is_finite : goal.returns-then-not-is_finite
 unfolding property of_bits
 returns-then-not-is_finite c =
-    let found = c in
-    rw (← found.refusal-number.ensures, eq-eqb _ _ found.if-number-ne0.false, ← computed (goal.at.returns-then-not-is_finite c).After-formula-result, ← c.is_finite.ensures, c.if-not-is_finite.true)
+    rw (← c.refusal-number.ensures, eq-eqb _ _ c.if-number-ne0.false, ← computed (goal.at.returns-then-not-is_finite c).After-formula-result, ← c.is_finite.ensures, c.if-not-is_finite.true)
 
 pub returns : goal.returns
 unfolding property
 returns c =
-    let found = c in
-    rw (← found.refusal-number.ensures, eq-eqb _ _ found.if-number-ne0.false, ← computed (goal.at.returns c).After-formula-result, ← c.is_finite.ensures, c.if-not-is_finite.false)
+    rw (← c.refusal-number.ensures, eq-eqb _ _ c.if-number-ne0.false, ← computed (goal.at.returns c).After-formula-result, ← c.is_finite.ensures, c.if-not-is_finite.false)

@@ -42,16 +42,14 @@ offset_bounds-values-place c = omega (arith, c.loop-place-test.true, (agreed (go
 
 pub bounds-values-place : goal.bounds-values-place
 bounds-values-place c =
-    let at-loop = c in
-    within (goal.at.bounds-values-place c).In-loop-place (as_long at-loop.loop-place.invariant.1.0 ∙ (agreed (goal.at.bounds-values-place c).Else-not-together).values_as_p)
+    within (goal.at.bounds-values-place c).In-loop-place (as_long c.loop-place.invariant.1.0 ∙ (agreed (goal.at.bounds-values-place c).Else-not-together).values_as_p)
 
 pub offset_bounds-numbers-place : goal.offset_bounds-numbers-place
 offset_bounds-numbers-place c = omega (arith, c.loop-place-test.true, (agreed (goal.at.offset_bounds-numbers-place c).Else-not-together).at_most)
 
 pub bounds-numbers-place : goal.bounds-numbers-place
 bounds-numbers-place c =
-    let at-loop = c in
-    within (goal.at.bounds-numbers-place c).In-loop-place (as_long at-loop.loop-place.invariant.1.1 ∙ (agreed (goal.at.bounds-numbers-place c).Else-not-together).numbers_as_p)
+    within (goal.at.bounds-numbers-place c).In-loop-place (as_long c.loop-place.invariant.1.1 ∙ (agreed (goal.at.bounds-numbers-place c).Else-not-together).numbers_as_p)
 
 pub overflow_add-place : goal.overflow_add-place
 overflow_add-place c = record { fits = omega (arith, c.loop-place-test.true, (agreed (goal.at.overflow_add-place c).Else-not-together).at_most) }
@@ -61,14 +59,12 @@ loop-place-smaller c = falls _ c.loop-place.place c.loop-place-test.true
 
 pub loop-place-preserved : goal.loop-place-preserved
 loop-place-preserved c =
-    let turn = c in
-    let at-loop = turn in
     let lengths = agreed (goal.at.loop-place-preserved c).Else-not-together in
     let reads = c.number_and_value-reading.ensures in (
-      add-one-le turn.loop-place-test.true,
+      add-one-le c.loop-place-test.true,
       (
-        one_more _ at-loop.loop-place.invariant.1.0 (ap (λ (r : Reading). r.value) reads) turn.loop-place-test.true lengths.T_as_p lengths.values_as_p,
-        one_more _ at-loop.loop-place.invariant.1.1 (ap (λ (r : Reading). r.number) reads) turn.loop-place-test.true lengths.T_as_p lengths.numbers_as_p,
+        one_more _ c.loop-place.invariant.1.0 (ap (λ (r : Reading). r.value) reads) c.loop-place-test.true lengths.T_as_p lengths.values_as_p,
+        one_more _ c.loop-place.invariant.1.1 (ap (λ (r : Reading). r.number) reads) c.loop-place-test.true lengths.T_as_p lengths.numbers_as_p,
       ),
     )
 
@@ -81,11 +77,10 @@ shape_of-numbers c = as_long c.loop-place.invariant.1.1
 pub returns : goal.returns
 unfolding log
 returns c =
-    let at-loop = c in
     let lengths = agreed (goal.at.returns c).Else-not-together in
     let to_the_end = c.loop-place-test.false in
-    rw (← at-loop.together.ensures, at-loop.if-not-together.false) (record {
+    rw (← c.together.ensures, c.if-not-together.false) (record {
       value = refl;
-      values_after = whole at-loop.loop-place.invariant.1.0 at-loop.loop-place.invariant.0 to_the_end lengths.T_as_p lengths.values_as_p;
-      numbers_after = whole at-loop.loop-place.invariant.1.1 at-loop.loop-place.invariant.0 to_the_end lengths.T_as_p lengths.numbers_as_p;
+      values_after = whole c.loop-place.invariant.1.0 c.loop-place.invariant.0 to_the_end lengths.T_as_p lengths.values_as_p;
+      numbers_after = whole c.loop-place.invariant.1.1 c.loop-place.invariant.0 to_the_end lengths.T_as_p lengths.numbers_as_p;
     })

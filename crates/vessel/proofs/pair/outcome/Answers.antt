@@ -15,20 +15,14 @@ returns-then-not-both_finite c = rw (le-leb _ _ c.if-limit-gt-LARGEST_STEP_LIMIT
 pub returns-then-not-inside : goal.returns-then-not-inside
 unfolding outcome
 returns-then-not-inside c =
-    let i = c in
-    let r = i in
-    rw (le-leb _ _ r.if-limit-gt-LARGEST_STEP_LIMIT.false, ← r.both_finite.ensures, r.if-not-both_finite.false, ← r.range-range.ensures, ← i.inside.ensures, c.if-not-inside.true, ← c.number.ensures) c.refused-then-not-inside.ensures
+    rw (le-leb _ _ c.if-limit-gt-LARGEST_STEP_LIMIT.false, ← c.both_finite.ensures, c.if-not-both_finite.false, ← c.range-range.ensures, ← c.inside.ensures, c.if-not-inside.true, ← c.number.ensures) c.refused-then-not-inside.ensures
 
 pub returns-then-volume_refused : goal.returns-then-volume_refused
 unfolding outcome
 returns-then-volume_refused c =
-    let i = c in
-    let r = i in
-    rw (le-leb _ _ r.if-limit-gt-LARGEST_STEP_LIMIT.false, ← r.both_finite.ensures, r.if-not-both_finite.false, ← r.range-range.ensures, ← i.inside.ensures, c.if-not-inside.false, ← c.volume_refused.ensures, c.if-volume_refused.true) c.refused-then-volume_refused.ensures
+    rw (le-leb _ _ c.if-limit-gt-LARGEST_STEP_LIMIT.false, ← c.both_finite.ensures, c.if-not-both_finite.false, ← c.range-range.ensures, ← c.inside.ensures, c.if-not-inside.false, ← c.volume_refused.ensures, c.if-volume_refused.true) c.refused-then-volume_refused.ensures
 
 pub returns : goal.returns
 unfolding outcome pair
 returns c =
-    let i = c in
-    let r = i in
-    rw (le-leb _ _ r.if-limit-gt-LARGEST_STEP_LIMIT.false, ← r.both_finite.ensures, r.if-not-both_finite.false, ← r.range-range.ensures, ← i.inside.ensures, c.if-not-inside.false, ← c.volume_refused.ensures, c.if-volume_refused.false) c.pair.ensures
+    rw (le-leb _ _ c.if-limit-gt-LARGEST_STEP_LIMIT.false, ← c.both_finite.ensures, c.if-not-both_finite.false, ← c.range-range.ensures, ← c.inside.ensures, c.if-not-inside.false, ← c.volume_refused.ensures, c.if-volume_refused.false) c.pair.ensures

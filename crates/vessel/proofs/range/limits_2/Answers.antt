@@ -9,15 +9,12 @@ returns-then-not-inside-2 c = rw (← c.inside.ensures, c.if-not-inside.false, �
 
 pub returns-in_default : goal.returns-in_default
 returns-in_default c =
-    let m = c in
-    rw (← m.inside.ensures, m.if-not-inside.false, ← m.inside-2.ensures, m.if-not-inside-2.false, ← m.T2pmax_reg2-highest.ensures, c.in_default.is)
+    rw (← c.inside.ensures, c.if-not-inside.false, ← c.inside-2.ensures, c.if-not-inside-2.false, ← c.T2pmax_reg2-highest.ensures, c.in_default.is)
 
 pub returns-then-most-p : goal.returns-then-most-p
 returns-then-most-p c =
-    let m = c in
-    rw (← m.inside.ensures, m.if-not-inside.false, ← m.inside-2.ensures, m.if-not-inside-2.false, ← m.T2pmax_reg2-highest.ensures, c.in-At.is, c.if-most-p.true)
+    rw (← c.inside.ensures, c.if-not-inside.false, ← c.inside-2.ensures, c.if-not-inside-2.false, ← c.T2pmax_reg2-highest.ensures, c.in-At.is, c.if-most-p.true)
 
 pub returns : goal.returns
 returns c =
-    let m = c in
-    rw (← m.inside.ensures, m.if-not-inside.false, ← m.inside-2.ensures, m.if-not-inside-2.false, ← m.T2pmax_reg2-highest.ensures, c.in-At.is, c.if-most-p.false)
+    rw (← c.inside.ensures, c.if-not-inside.false, ← c.inside-2.ensures, c.if-not-inside-2.false, ← c.T2pmax_reg2-highest.ensures, c.in-At.is, c.if-most-p.false)

@@ -6,26 +6,22 @@ use Rattle.search.proofs.bracket.Bracket.opened.Goals as goal
 pub returns-then-self : goal.returns-then-self
 unfolding of_bits opened
 returns-then-self c =
-    let i = c in
-    rw (← i.is_finite.ensures, i.if-is_finite.true, ← i.is_finite-then-is_finite.ensures, c.if-is_finite-2.true, c.if-self.true)
+    rw (← c.is_finite.ensures, c.if-is_finite.true, ← c.is_finite-then-is_finite.ensures, c.if-is_finite-2.true, c.if-self.true)
 
 pub returns-then-self-2 : goal.returns-then-self-2
 unfolding of_bits opened
 returns-then-self-2 c =
-    let i = c in
-    rw (← i.is_finite.ensures, i.if-is_finite.true, ← i.is_finite-then-is_finite.ensures, c.if-is_finite-2.true, c.if-self.false, c.if-self-2.true)
+    rw (← c.is_finite.ensures, c.if-is_finite.true, ← c.is_finite-then-is_finite.ensures, c.if-is_finite-2.true, c.if-self.false, c.if-self-2.true)
 
 pub returns-then-same_sign : goal.returns-then-same_sign
 unfolding of_bits opened
 returns-then-same_sign c =
-    let i = c in
-    rw (← i.is_finite.ensures, i.if-is_finite.true, ← i.is_finite-then-is_finite.ensures, i.if-is_finite-2.true, i.if-self.false, c.if-self-2.false, ← c.same_sign.ensures, c.if-same_sign.true, ← c.refused.ensures)
+    rw (← c.is_finite.ensures, c.if-is_finite.true, ← c.is_finite-then-is_finite.ensures, c.if-is_finite-2.true, c.if-self.false, c.if-self-2.false, ← c.same_sign.ensures, c.if-same_sign.true, ← c.refused.ensures)
 
 pub returns-then-is_finite-2 : goal.returns-then-is_finite-2
 unfolding of_bits opened
 returns-then-is_finite-2 c =
-    let i = c in
-    rw (← i.is_finite.ensures, i.if-is_finite.true, ← i.is_finite-then-is_finite.ensures, i.if-is_finite-2.true, i.if-self.false, c.if-self-2.false, ← c.same_sign.ensures, c.if-same_sign.false)
+    rw (← c.is_finite.ensures, c.if-is_finite.true, ← c.is_finite-then-is_finite.ensures, c.if-is_finite-2.true, c.if-self.false, c.if-self-2.false, ← c.same_sign.ensures, c.if-same_sign.false)
 
 pub returns-else-is_finite-2 : goal.returns-else-is_finite-2
 unfolding of_bits opened

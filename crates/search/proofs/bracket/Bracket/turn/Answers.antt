@@ -15,11 +15,9 @@ returns-then-abs c = rw (← c.is_finite.ensures, c.if-not-is_finite.false, ← 
 pub returns-then-narrow : goal.returns-then-narrow
 unfolding rounded of_bits turn
 returns-then-narrow c =
-    let i = c in
-    rw (← i.is_finite.ensures, i.if-not-is_finite.false, ← i.abs.ensures, c.if-abs.false, ← c.narrow.ensures, c.if-narrow.true, ← c.middle-then-narrow.ensures)
+    rw (← c.is_finite.ensures, c.if-not-is_finite.false, ← c.abs.ensures, c.if-abs.false, ← c.narrow.ensures, c.if-narrow.true, ← c.middle-then-narrow.ensures)
 
 pub returns : goal.returns
 unfolding rounded of_bits turn
 returns c =
-    let i = c in
-    rw (← i.is_finite.ensures, i.if-not-is_finite.false, ← i.abs.ensures, c.if-abs.false, ← c.narrow.ensures, c.if-narrow.false, ← c.step.ensures)
+    rw (← c.is_finite.ensures, c.if-not-is_finite.false, ← c.abs.ensures, c.if-abs.false, ← c.narrow.ensures, c.if-narrow.false, ← c.step.ensures)

@@ -6,8 +6,7 @@ use Rattle.search.proofs.brent.Brent.lengths.Goals.{then-abs+else-self, else-abs
 pub returns-then-self : goal.returns-then-self
 unfolding lengths
 returns-then-self c =
-    let i = c in
-    rw (← i.half_width-xm.ensures, ← i.abs.ensures, ← i.abs-2.ensures, i.if-abs.true, c.if-self.true, ← c.ratio.ensures, ← c.accepted.ensures)
+    rw (← c.half_width-xm.ensures, ← c.abs.ensures, ← c.abs-2.ensures, c.if-abs.true, c.if-self.true, ← c.ratio.ensures, ← c.accepted.ensures)
 
 pub returns : goal.returns
 unfolding lengths

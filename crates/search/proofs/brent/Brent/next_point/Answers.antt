@@ -9,5 +9,4 @@ returns-then-t-abs c = rw (← c.tolerance-t.ensures, ← c.abs.ensures, c.if-t-
 pub returns : goal.returns
 unfolding next_point
 returns c =
-    let i = c in
-    rw (← i.tolerance-t.ensures, ← i.abs.ensures, c.if-t-abs.false, ← c.half_width.ensures, ← c.copysign.ensures)
+    rw (← c.tolerance-t.ensures, ← c.abs.ensures, c.if-t-abs.false, ← c.half_width.ensures, ← c.copysign.ensures)

@@ -11,5 +11,4 @@ returns-then-self c = rw (← c.half_width-xm.ensures, c.if-self.true)
 pub returns : goal.returns
 unfolding rounded of_bits ratio
 returns c =
-    let i = c in
-    rw (← i.half_width-xm.ensures, c.if-self.false)
+    rw (← c.half_width-xm.ensures, c.if-self.false)
