@@ -1,4 +1,4 @@
-// The C interface: the vessel's calls with numbers for their choices, each writing its answer as a record into two lent arrays.
+// The C interface: the vessel's calls with numbers for their choices, each writing its answer as a record into two lent arrays. The crate climboat_c gives each its symbol.
 #![tactic(auto)]
 
 ghost use Rattle.std.specs.Prelude.{◌≡◌};
@@ -12,8 +12,7 @@ pub mod names;
 pub mod record;
 
 // A property by (p,T).
-#[unsafe(no_mangle)]
-pub extern "C" fn climboat_pT_columns(
+pub fn climboat_pT_columns(
     region: u32,
     property: u32,
     p: f64,
@@ -30,8 +29,7 @@ pub extern "C" fn climboat_pT_columns(
 }
 
 // A property at every (p,T) of a log: each run is a pointer and a length.
-#[unsafe(no_mangle)]
-pub extern "C" fn climboat_pT_log_runs(
+pub fn climboat_pT_log_runs(
     region: u32,
     property: u32,
     p: &[f64],
@@ -47,12 +45,7 @@ pub extern "C" fn climboat_pT_log_runs(
 }
 
 // The pressure of the saturation line at T.
-#[unsafe(no_mangle)]
-pub extern "C" fn climboat_saturation_pressure_columns(
-    T: f64,
-    numbers: &mut [u32; 8],
-    doubles: &mut [f64; 8],
-)
+pub fn climboat_saturation_pressure_columns(T: f64, numbers: &mut [u32; 8], doubles: &mut [f64; 8])
     ensures numbers_after { numbers.new ≡ numbers_of (saturation_pressure T) }
     ensures doubles_after { doubles.new ≡ doubles_of (saturation_pressure T) }
 {
@@ -62,8 +55,7 @@ pub extern "C" fn climboat_saturation_pressure_columns(
 }
 
 // The temperature of the saturation line at p.
-#[unsafe(no_mangle)]
-pub extern "C" fn climboat_saturation_temperature_columns(
+pub fn climboat_saturation_temperature_columns(
     p: f64,
     numbers: &mut [u32; 8],
     doubles: &mut [f64; 8],
@@ -77,12 +69,7 @@ pub extern "C" fn climboat_saturation_temperature_columns(
 }
 
 // The pressure of B23 at T.
-#[unsafe(no_mangle)]
-pub extern "C" fn climboat_B23_pressure_columns(
-    T: f64,
-    numbers: &mut [u32; 8],
-    doubles: &mut [f64; 8],
-)
+pub fn climboat_B23_pressure_columns(T: f64, numbers: &mut [u32; 8], doubles: &mut [f64; 8])
     ensures numbers_after { numbers.new ≡ numbers_of (B23_pressure T) }
     ensures doubles_after { doubles.new ≡ doubles_of (B23_pressure T) }
 {
@@ -92,12 +79,7 @@ pub extern "C" fn climboat_B23_pressure_columns(
 }
 
 // The temperature of B23 at p.
-#[unsafe(no_mangle)]
-pub extern "C" fn climboat_B23_temperature_columns(
-    p: f64,
-    numbers: &mut [u32; 8],
-    doubles: &mut [f64; 8],
-)
+pub fn climboat_B23_temperature_columns(p: f64, numbers: &mut [u32; 8], doubles: &mut [f64; 8])
     ensures numbers_after { numbers.new ≡ numbers_of (B23_temperature p) }
     ensures doubles_after { doubles.new ≡ doubles_of (B23_temperature p) }
 {
@@ -107,8 +89,7 @@ pub extern "C" fn climboat_B23_temperature_columns(
 }
 
 // (p,v) to T.
-#[unsafe(no_mangle)]
-pub extern "C" fn climboat_pv2T_columns(
+pub fn climboat_pv2T_columns(
     region: u32,
     p: f64,
     v: f64,
@@ -125,8 +106,7 @@ pub extern "C" fn climboat_pv2T_columns(
 }
 
 // (T,v) to p.
-#[unsafe(no_mangle)]
-pub extern "C" fn climboat_Tv2p_columns(
+pub fn climboat_Tv2p_columns(
     region: u32,
     T: f64,
     v: f64,
@@ -143,8 +123,7 @@ pub extern "C" fn climboat_Tv2p_columns(
 }
 
 // (T,h) to p.
-#[unsafe(no_mangle)]
-pub extern "C" fn climboat_Th2p_columns(
+pub fn climboat_Th2p_columns(
     region: u32,
     T: f64,
     h: f64,
@@ -161,8 +140,7 @@ pub extern "C" fn climboat_Th2p_columns(
 }
 
 // (T,s) to p.
-#[unsafe(no_mangle)]
-pub extern "C" fn climboat_Ts2p_columns(
+pub fn climboat_Ts2p_columns(
     region: u32,
     T: f64,
     s: f64,

@@ -47,7 +47,7 @@ loop-k-preserved c =
     let fi : SFits w32 (get_or a.is.now c.loop-k.k (pos 0)) = record { sfits = c.with_row-arg-1.given } in
     let fj : SFits w32 (get_or a.js.now c.loop-k.k (pos 0)) = record { sfits = c.with_row-arg-in-loop-k-1.given } in
     goes_on _ _ _ _ _ c.requires.0 c.loop-k.invariant c.loop-k-test.true
-    (rw (to_z-of_z fi, to_z-of_z fj) c c.with_row-sums.ensures)
+    (rw (to_z-of_z fi, to_z-of_z fj) at c.with_row-sums.ensures)
 
 pub returns : goal.returns
 returns c = ends _ _ _ _ _ c.loop-k.invariant c.loop-k-test.false

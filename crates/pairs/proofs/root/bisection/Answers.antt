@@ -38,11 +38,11 @@ returns-in-Done c =
 
 pub loop-n-preserved : goal.loop-n-preserved
 loop-n-preserved c = (
-      search rules,
-      sym (loop_go (next (width_of c.args.rule) (residual c.args.question)) spent c.args.limit c.loop-n.b c.loop-n.n _ c.loop-n-test.true
-          (at_turn (goal.at.loop-n-preserved c).After-turn ∙ ap turn_go c.in-Next.is))
-          ∙ c.loop-n.invariant.1,
-    )
+  search rules,
+  sym (loop_go (next (width_of c.args.rule) (residual c.args.question)) spent c.args.limit c.loop-n.b c.loop-n.n _ c.loop-n-test.true
+      (at_turn (goal.at.loop-n-preserved c).After-turn ∙ ap turn_go c.in-Next.is))
+      ∙ c.loop-n.invariant.1,
+)
 
 pub returns : goal.returns
 unfolding spent

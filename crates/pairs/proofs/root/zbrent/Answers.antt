@@ -36,10 +36,10 @@ returns-in-Ended c =
 
 pub loop-n-preserved : goal.loop-n-preserved
 loop-n-preserved c = (
-      search rules,
-      sym (loop_go (next (residual c.args.question)) spent c.args.limit c.loop-n.s c.loop-n.n _ c.loop-n-test.true (at-step (goal.at.loop-n-preserved c).After-step ∙ ap turn_go c.in-On.is))
-          ∙ c.loop-n.invariant.1,
-    )
+  search rules,
+  sym (loop_go (next (residual c.args.question)) spent c.args.limit c.loop-n.s c.loop-n.n _ c.loop-n-test.true (at-step (goal.at.loop-n-preserved c).After-step ∙ ap turn_go c.in-On.is))
+      ∙ c.loop-n.invariant.1,
+)
 
 pub returns : goal.returns
 unfolding spent

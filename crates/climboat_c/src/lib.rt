@@ -1,0 +1,157 @@
+// The C interface's symbols: each call of `climboat` under its name in the archive, with the same clauses.
+#![tactic(auto)]
+
+ghost use Rattle.std.specs.Prelude.{◌≡◌};
+ghost use Rattle.vessel.specs.Calls.{saturation_pressure, saturation_temperature, B23_pressure, B23_temperature};
+ghost use Rattle.vessel.specs.Log.{lent};
+ghost use Rattle.climboat.specs.Calls.{pT, pT_log, pv2T, Tv2p, Th2p, Ts2p};
+ghost use Rattle.climboat.specs.Record.{numbers as numbers_of, doubles as doubles_of};
+
+// A property by (p,T).
+#[unsafe(no_mangle)]
+pub extern "C" fn climboat_pT_columns(
+    region: u32,
+    property: u32,
+    p: f64,
+    T: f64,
+    numbers: &mut [u32; 8],
+    doubles: &mut [f64; 8],
+)
+    ensures numbers_after { numbers.new ≡ numbers_of (pT region property p T) }
+    ensures doubles_after { doubles.new ≡ doubles_of (pT region property p T) }
+{
+    climboat::climboat_pT_columns(region, property, p, T, numbers, doubles);
+}
+
+// A property at every (p,T) of a log: each run is a pointer and a length.
+#[unsafe(no_mangle)]
+pub extern "C" fn climboat_pT_log_runs(
+    region: u32,
+    property: u32,
+    p: &[f64],
+    T: &[f64],
+    values: &mut [f64],
+    numbers: &mut [u32],
+) -> u32
+    ensures value { result ≡ (pT_log region property (lent p.now T.now values.old numbers.old)).number }
+    ensures values_after { values.new ≡ (pT_log region property (lent p.now T.now values.old numbers.old)).values }
+    ensures numbers_after { numbers.new ≡ (pT_log region property (lent p.now T.now values.old numbers.old)).numbers }
+{
+    climboat::climboat_pT_log_runs(region, property, p, T, values, numbers)
+}
+
+// The pressure of the saturation line at T.
+#[unsafe(no_mangle)]
+pub extern "C" fn climboat_saturation_pressure_columns(
+    T: f64,
+    numbers: &mut [u32; 8],
+    doubles: &mut [f64; 8],
+)
+    ensures numbers_after { numbers.new ≡ numbers_of (saturation_pressure T) }
+    ensures doubles_after { doubles.new ≡ doubles_of (saturation_pressure T) }
+{
+    climboat::climboat_saturation_pressure_columns(T, numbers, doubles);
+}
+
+// The temperature of the saturation line at p.
+#[unsafe(no_mangle)]
+pub extern "C" fn climboat_saturation_temperature_columns(
+    p: f64,
+    numbers: &mut [u32; 8],
+    doubles: &mut [f64; 8],
+)
+    ensures numbers_after { numbers.new ≡ numbers_of (saturation_temperature p) }
+    ensures doubles_after { doubles.new ≡ doubles_of (saturation_temperature p) }
+{
+    climboat::climboat_saturation_temperature_columns(p, numbers, doubles);
+}
+
+// The pressure of B23 at T.
+#[unsafe(no_mangle)]
+pub extern "C" fn climboat_B23_pressure_columns(
+    T: f64,
+    numbers: &mut [u32; 8],
+    doubles: &mut [f64; 8],
+)
+    ensures numbers_after { numbers.new ≡ numbers_of (B23_pressure T) }
+    ensures doubles_after { doubles.new ≡ doubles_of (B23_pressure T) }
+{
+    climboat::climboat_B23_pressure_columns(T, numbers, doubles);
+}
+
+// The temperature of B23 at p.
+#[unsafe(no_mangle)]
+pub extern "C" fn climboat_B23_temperature_columns(
+    p: f64,
+    numbers: &mut [u32; 8],
+    doubles: &mut [f64; 8],
+)
+    ensures numbers_after { numbers.new ≡ numbers_of (B23_temperature p) }
+    ensures doubles_after { doubles.new ≡ doubles_of (B23_temperature p) }
+{
+    climboat::climboat_B23_temperature_columns(p, numbers, doubles);
+}
+
+// (p,v) to T.
+#[unsafe(no_mangle)]
+pub extern "C" fn climboat_pv2T_columns(
+    region: u32,
+    p: f64,
+    v: f64,
+    limit: u32,
+    numbers: &mut [u32; 8],
+    doubles: &mut [f64; 8],
+)
+    ensures numbers_after { numbers.new ≡ numbers_of (pv2T region p v limit) }
+    ensures doubles_after { doubles.new ≡ doubles_of (pv2T region p v limit) }
+{
+    climboat::climboat_pv2T_columns(region, p, v, limit, numbers, doubles);
+}
+
+// (T,v) to p.
+#[unsafe(no_mangle)]
+pub extern "C" fn climboat_Tv2p_columns(
+    region: u32,
+    T: f64,
+    v: f64,
+    limit: u32,
+    numbers: &mut [u32; 8],
+    doubles: &mut [f64; 8],
+)
+    ensures numbers_after { numbers.new ≡ numbers_of (Tv2p region T v limit) }
+    ensures doubles_after { doubles.new ≡ doubles_of (Tv2p region T v limit) }
+{
+    climboat::climboat_Tv2p_columns(region, T, v, limit, numbers, doubles);
+}
+
+// (T,h) to p.
+#[unsafe(no_mangle)]
+pub extern "C" fn climboat_Th2p_columns(
+    region: u32,
+    T: f64,
+    h: f64,
+    limit: u32,
+    numbers: &mut [u32; 8],
+    doubles: &mut [f64; 8],
+)
+    ensures numbers_after { numbers.new ≡ numbers_of (Th2p region T h limit) }
+    ensures doubles_after { doubles.new ≡ doubles_of (Th2p region T h limit) }
+{
+    climboat::climboat_Th2p_columns(region, T, h, limit, numbers, doubles);
+}
+
+// (T,s) to p.
+#[unsafe(no_mangle)]
+pub extern "C" fn climboat_Ts2p_columns(
+    region: u32,
+    T: f64,
+    s: f64,
+    limit: u32,
+    numbers: &mut [u32; 8],
+    doubles: &mut [f64; 8],
+)
+    ensures numbers_after { numbers.new ≡ numbers_of (Ts2p region T s limit) }
+    ensures doubles_after { doubles.new ≡ doubles_of (Ts2p region T s limit) }
+{
+    climboat::climboat_Ts2p_columns(region, T, s, limit, numbers, doubles);
+}
