@@ -77,7 +77,7 @@ function look_up(name, kind, place, full,    scope, path) {
     if (name in language || (kind == "words" && (name in crates || path in paths))) return ""
     if (place in paths && !(place in crates)) { one("theorem", name, " " place, ""); return "" }
     if (kind == "theorem") { one("theorem", name, files, ""); return "" }
-    if (name ~ /^lib\./) { one("used", name, scope, ""); return "" }
+    if (name ~ /^Rattle\.std\./) { one("used", name, scope, ""); return "" }
     if (name ~ /::/) return code_name(name, scope)
     if (name ~ /^[A-Z][A-Za-z0-9]*\../) { one("definition", name, scope, ""); return name }
     if (full ~ /::/) return code_name(beside(full, "::", name), scope)

@@ -28,12 +28,6 @@ fn folders() -> Vec<PathBuf> {
     if let Some(named) = env::var_os(FOLDER) {
         return vec![PathBuf::from(named)];
     }
-    let target =
-        PathBuf::from(env::var_os("CARGO_MANIFEST_DIR").unwrap_or_default()).join("../../target");
-    let mut folders = vec![target.join("native")];
-    // what `rt staticlib` leaves there is code for x86-64
-    if env::var("CARGO_CFG_TARGET_ARCH").as_deref() == Ok("x86_64") {
-        folders.push(target.join("staticlib"));
-    }
-    folders
+    let root = PathBuf::from(env::var_os("CARGO_MANIFEST_DIR").unwrap_or_default()).join("../..");
+    vec![root.join("target/native")]
 }

@@ -42,17 +42,18 @@ impl Clone {
         let clone = Clone::new(name);
         clone.all_tools();
         clone.own("tools/staticlib");
-        for tool in ["awk", "mv", "sleep"] {
+        for tool in ["awk", "grep", "mv", "sleep"] {
             clone.borrow(tool);
         }
         clone.tool("bin/uname", "echo x86_64");
         // io is the kit's, and edges is not needed
         let crates =
-            "exact:\nfloat: exact\nclimboat: float exact io\nedges: climboat float exact\n";
+            "exact:\nfloat: exact\nclimboat staticlib: float exact io\nedges: float exact\n";
         fs::write(clone.0.join("crates.txt"), crates).unwrap();
+        fs::create_dir_all(clone.0.join("crates/climboat")).unwrap();
         clone.tool(
             "bin/rt",
-            &format!("cd ..\nmkdir -p target/log target/staticlib\n{rt}"),
+            &format!("cd ..\nmkdir -p crates/climboat/out\n{rt}"),
         );
         clone
     }
@@ -209,14 +210,14 @@ fn a_build_that_fails_shows_why_with_status_3() {
 }
 
 /// An rt that has proved one crate before, takes its time for the others, and says more than how far it is.
-const SLOW: &str = "echo 'rt: exact proved (unchanged since it was last proved)'
-: >target/log/float.say
+const SLOW: &str = "echo 'library exact: modules loaded=44 checked=0'
+echo 'checked float::sqrt, 1 of 1'
 sleep 1.2
 echo 'fn float::sqrt: proved'
-echo 'rt: float proved (1 s)'
-: >target/log/climboat.say
+echo 'crate float: modules loaded=1 checked=1'
+echo 'checked climboat::pT, 1 of 1'
 sleep 1.2
-: >target/staticlib/libclimboat.a";
+: >crates/climboat/out/libclimboat.a";
 
 /// What `SLOW` lets staticlib say.
 const STAGES: [&str; 3] = [
@@ -319,7 +320,7 @@ fn a_proof_that_fails_shows_the_end_of_the_log_with_status_3() {
 #[test]
 fn an_interrupt_stops_what_rt_has_started() {
     // what a shell starts behind itself does not hear an interrupt
-    let late = ": >target/log/float.say\n(sleep 2; : >late) &\n: >started\nwait";
+    let late = "echo 'checked float::sqrt, 1 of 1'\n(sleep 2; : >late) &\n: >started\nwait";
     let clone = Clone::proving("interrupted", late);
     let child = clone
         .command()
