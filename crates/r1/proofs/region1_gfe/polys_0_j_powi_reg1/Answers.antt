@@ -3,7 +3,6 @@ use mathlib.Core.Path.{refl}
 use lib.Ieee.{of_bits}
 use Rattle.float.specs.Decimal.{rounded}
 use Rattle.polynomial.specs.Tables.{rows, all_in_range}
-use Rattle.polynomial.specs.Kinds.{divided, only_0_j}
 use Rattle.polynomial.proofs.Components.{sums_0_j}
 use Rattle.r1.specs.Table2.{table}
 use Rattle.r1.specs.Region1.{derivatives, vi, vj, terms}

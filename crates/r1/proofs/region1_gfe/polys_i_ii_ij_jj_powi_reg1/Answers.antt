@@ -3,7 +3,7 @@ use mathlib.Core.Path.{refl, ap}
 use lib.Ieee.{of_bits}
 use Rattle.float.specs.Decimal.{rounded}
 use Rattle.polynomial.specs.Tables.{rows, all_in_range}
-use Rattle.polynomial.specs.Kinds.{divided, only_i_ii_ij_jj}
+use Rattle.polynomial.specs.Kinds.{only_i_ii_ij_jj}
 use Rattle.polynomial.specs.declared.Sums.{Sums}
 use Rattle.polynomial.proofs.Components.{sums_i_ii_ij_jj}
 use Rattle.r1.specs.Table2.{table}

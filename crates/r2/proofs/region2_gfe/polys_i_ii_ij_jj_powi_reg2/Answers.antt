@@ -3,7 +3,6 @@ use mathlib.Core.Path.{refl}
 use lib.Ieee.{of_bits}
 use Rattle.float.specs.Decimal.{rounded}
 use Rattle.polynomial.specs.Tables.{rows, all_in_range}
-use Rattle.polynomial.specs.Kinds.{divided, only_i_ii_ij_jj}
 use Rattle.polynomial.proofs.Components.{sums_i_ii_ij_jj}
 use Rattle.r2.specs.Table11.{table}
 use Rattle.r2.specs.Region2.{equation}
