@@ -10,9 +10,18 @@ use borrow.Author.Tests.{ltb-true, ltb-false, leb-true, lt-ltb, le-ltb, le-leb, 
 use lib.Dec.{ltb, leb}
 use lib.ListN.{length, drop, get_or, length-append}
 use lib.Seq.{drop-cons}
-use Rattle.io.specs.Digits.{hex_digit_ascii, last_digits}
 use Rattle.digits.specs.declared.Number.TheVariants.{Is, Not}
 use Rattle.digits.specs.Digits.{digit_of, number_from, number_of}
+
+-- ---- how a number is written
+-- the ASCII code of a digit below 16: `0` to `9`, then `a` to `f`
+abbrev pub hex_digit_ascii : ℕ → ℕ
+hex_digit_ascii d = cond (ltb d 10) (48 + d) (87 + d)
+
+-- the last k digits of n in base b, the most significant first
+abbrev pub last_digits : ℕ → ℕ → ℕ → List ℕ
+last_digits b zero n = []
+last_digits b (suc k) n = last_digits b k (n / b) ++ (hex_digit_ascii (n % b) ∷ [])
 
 -- ---- one digit
 pub digit_most : (b : ℕ) → digit_of b ≤ 16

@@ -1,0 +1,25 @@
+-- `digits::double` meets its contract: one comparison tells the patterns of a NaN, and all of them are read as the same. Assumes nothing.
+use mathlib.Core.Path.{◌≡◌, refl, sym, ◌∙◌, subst}
+use mathlib.Core.Bool.{Bool, true, false, not, true≢false}
+use borrow.Author.Tests.{lt-ltb, le-ltb}
+use Prim.Native.Nat.{ℕ}
+use lib.Dec.{T}
+use lib.Ieee.{Float, nan, inf, fin, binary64, of_bits, is_nan, div}
+use lib.Ieee.Bits.{nan_bits_is, nan_bits_above}
+use Rattle.digits.proofs.double.Goals as goal
+
+one_nan : (x : Float) → is_nan x ≡ true → nan ≡ x
+unfolding is_nan
+one_nan nan h = refl
+one_nan (inf s) h = absurd (true≢false (sym h))
+one_nan (fin s m e) h = absurd (true≢false (sym h))
+
+pub returns-then-bits-gt9218868437227405312 : goal.returns-then-bits-gt9218868437227405312
+unfolding div of_bits
+returns-then-bits-gt9218868437227405312 c =
+    let b : ℕ = c.args.bits in
+    one_nan (of_bits binary64 b) (sym (nan_bits_is binary64 b) ∙ nan_bits_above binary64 b ∙ lt-ltb _ _ c.if-bits-gt9218868437227405312.true)
+
+pub float_from_bits-result : goal.float_from_bits-result
+float_from_bits-result c =
+    subst (λ (t : Bool). T (not t)) (sym (nan_bits_above binary64 c.args.bits ∙ le-ltb _ _ c.if-bits-gt9218868437227405312.false)) tt
