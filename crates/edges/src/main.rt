@@ -6,31 +6,34 @@ mod helpers;
 mod limits;
 mod log;
 
-fn main() {
-    helpers::all();
-    calls::readings10to12();
-    calls::not_finite();
-    calls::least();
-    limits::rule_T();
-    limits::rule_p();
-    limits::rule_5();
-    limits::saturation();
-    calls::saturation();
-    limits::b23();
-    calls::b23();
-    calls::readings13to16();
-    calls::step_limits();
-    calls::order();
-    calls::places();
-    limits::ranges_p();
-    limits::ranges_T();
-    limits::ranges_T_5();
-    calls::outside();
-    calls::inside();
-    calls::region5();
-    calls::region5_h_s();
-    log::filled();
-    log::filled_5();
-    log::refused();
-    log::empty();
+use std::io;
+
+fn main(rt: HostRuntime) -> io::Result<()> {
+    helpers::all(&rt)?;
+    calls::readings10to12(&rt)?;
+    calls::not_finite(&rt)?;
+    calls::least(&rt)?;
+    limits::rule_T(&rt)?;
+    limits::rule_p(&rt)?;
+    limits::rule_5(&rt)?;
+    limits::saturation(&rt)?;
+    calls::saturation(&rt)?;
+    limits::b23(&rt)?;
+    calls::b23(&rt)?;
+    calls::readings13to16(&rt)?;
+    calls::step_limits(&rt)?;
+    calls::order(&rt)?;
+    calls::places(&rt)?;
+    limits::ranges_p(&rt)?;
+    limits::ranges_T(&rt)?;
+    limits::ranges_T_5(&rt)?;
+    calls::outside(&rt)?;
+    calls::inside(&rt)?;
+    calls::region5(&rt)?;
+    calls::region5_h_s(&rt)?;
+    log::filled(&rt)?;
+    log::filled_5(&rt)?;
+    log::refused(&rt)?;
+    log::empty(&rt)?;
+    Ok(())
 }

@@ -1,101 +1,96 @@
 // How results are written: each double as the sixteen digits of its bits, an answer as its columns.
 #![tactic(auto)]
 
-use libc::STDOUT_FILENO;
 use search::bracket::Bracket;
+use std::io;
 use vessel::answer::{Answer, Found};
 use vessel::asked::Asked;
 
 // Text as it is.
-pub fn write(text: &[u8]) {
-    io::write_all(STDOUT_FILENO, text);
+pub fn write(rt: &impl Print, text: &[u8]) -> io::Result<()> {
+    rt.write_all(text)
 }
 
-fn double(x: f64) {
+fn double(rt: &impl Print, x: f64) -> io::Result<()> {
     if x != x {
-        write(b" NaN");
+        print!(rt; " NaN")
     } else {
         let bits = f64::to_bits(x);
-        write(b" ");
-        io::print_hex(STDOUT_FILENO, bits, 16);
+        print!(rt; " {bits:016x}")
     }
 }
 
 // A double with its name.
-pub fn tell(name: &[u8], x: f64) {
-    write(name);
-    double(x);
-    write(b"\n");
+pub fn tell(rt: &impl Print, name: &[u8], x: f64) -> io::Result<()> {
+    write(rt, name)?;
+    double(rt, x)?;
+    println!(rt;)
 }
 
 // A whole number with its name.
-pub fn number(name: &[u8], n: u32) {
-    write(name);
-    io::print_decimal(STDOUT_FILENO, n as u64);
+pub fn number(rt: &impl Print, name: &[u8], n: u32) -> io::Result<()> {
+    write(rt, name)?;
+    print!(rt; "{n}")
 }
 
-fn steps(n: u32, bracket: Bracket) {
-    number(b", steps ", n);
-    write(b", bracket");
-    double(bracket.x1);
-    double(bracket.x2);
-    write(b", residuals");
-    double(bracket.r1);
-    double(bracket.r2);
+fn steps(rt: &impl Print, n: u32, bracket: Bracket) -> io::Result<()> {
+    print!(rt; ", steps {n}, bracket")?;
+    double(rt, bracket.x1)?;
+    double(rt, bracket.x2)?;
+    print!(rt; ", residuals")?;
+    double(rt, bracket.r1)?;
+    double(rt, bracket.r2)
 }
 
 // What an answer is of, and the end of its line.
-fn of(asked: Asked) {
-    let kind = asked.kind;
-    let region = asked.region;
-    let property = asked.property;
-    number(b", kind ", kind.number());
-    number(b", region ", region.number());
-    number(b", property ", property.number());
-    write(b", inputs");
-    double(asked.first);
-    double(asked.second);
-    write(b"\n");
+fn of(rt: &impl Print, asked: Asked) -> io::Result<()> {
+    let kind = asked.kind.number();
+    let region = asked.region.number();
+    let property = asked.property.number();
+    print!(rt; ", kind {kind}, region {region}, property {property}, inputs")?;
+    double(rt, asked.first)?;
+    double(rt, asked.second)?;
+    println!(rt;)
 }
 
-fn found(reason: &[u8], f: Found) {
-    write(reason);
-    double(f.value);
-    steps(f.steps, f.bracket);
+fn found(rt: &impl Print, reason: &str, f: Found) -> io::Result<()> {
+    print!(rt; "{reason}")?;
+    double(rt, f.value)?;
+    steps(rt, f.steps, f.bracket)?;
     if f.inside {
-        write(b", inside");
+        print!(rt; ", inside")
     } else {
-        write(b", outside");
+        print!(rt; ", outside")
     }
 }
 
 // An answer with its name.
-pub fn answer(name: &[u8], a: Answer) {
-    write(name);
+pub fn answer(rt: &impl Print, name: &[u8], a: Answer) -> io::Result<()> {
+    write(rt, name)?;
     match a {
         Answer::Value(asked, x) => {
-            write(b": value");
-            double(x);
-            of(asked);
+            print!(rt; ": value")?;
+            double(rt, x)?;
+            of(rt, asked)
         }
         Answer::ExactEnd(asked, f) => {
-            found(b": exact end", f);
-            of(asked);
+            found(rt, ": exact end", f)?;
+            of(rt, asked)
         }
         Answer::SmallResidual(asked, f) => {
-            found(b": small residual", f);
-            of(asked);
+            found(rt, ": small residual", f)?;
+            of(rt, asked)
         }
         Answer::Narrow(asked, f) => {
-            found(b": narrow", f);
-            of(asked);
+            found(rt, ": narrow", f)?;
+            of(rt, asked)
         }
         Answer::Refused(asked, r) => {
-            number(b": refused ", r.number);
-            write(b", value");
-            double(r.value);
-            steps(r.steps, r.bracket);
-            of(asked);
+            let number = r.number;
+            print!(rt; ": refused {number}, value")?;
+            double(rt, r.value)?;
+            steps(rt, r.steps, r.bracket)?;
+            of(rt, asked)
         }
     }
 }
