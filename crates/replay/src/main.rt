@@ -5,40 +5,53 @@
 mod line;
 
 use crate::line::{Reply, answered};
-use libc::{STDIN_FILENO, STDOUT_FILENO};
+use std::io;
+use std::io::Read;
 
-fn not_an_input(number: u64) {
-    io::write_all(STDOUT_FILENO, b"line ");
-    io::print_decimal(STDOUT_FILENO, number);
-    io::write_all(STDOUT_FILENO, b": not an input of replay\n");
+fn not_an_input(rt: &impl Print, number: u64) -> io::Result<()> {
+    println!(rt; "line {number}: not an input of replay")
 }
 
-fn tell(line: &[u8; 47], number: u64) {
+fn tell(rt: &impl Print, line: &[u8; 47], number: u64) -> io::Result<()> {
     match answered(line) {
         Reply::Given(answer) => {
             let text = &line[..];
-            show::answer(&text[0..46], answer);
+            show::answer(rt, &text[0..46], answer)
         }
-        Reply::NotAnInput => {
-            not_an_input(number);
-        }
+        Reply::NotAnInput => not_an_input(rt, number),
     }
+}
+
+// Reads until the line is full or the input ends, and says how many bytes came.
+fn read_full(input: &mut impl Read, line: &mut [u8; 47]) -> io::Result<usize> {
+    let mut done = 0;
+    while done < 47 {
+        let n = input.read(&mut line[done..])?;
+        if n == 0 {
+            break;
+        }
+        done += n;
+    }
+    Ok(done)
 }
 
 // Reads a line and answers it, and says whether there was one. A line cut short lacks its newline, so it is no input.
-fn one(number: u64) -> bool {
+fn one(rt: &impl Print, input: &mut impl Read, number: u64) -> io::Result<bool> {
     let mut line = [0u8; 47];
-    if io::read_full(STDIN_FILENO, &mut line) == 0 {
-        return false;
+    if read_full(input, &mut line)? == 0 {
+        return Ok(false);
     }
-    tell(&line, number);
-    true
+    tell(rt, &line, number)?;
+    Ok(true)
 }
 
 // A proved loop has to end, and nothing says that the input does: the last number is one that no run reaches.
-fn main() {
-    let mut number = 1u64;
-    while number < u64::MAX && one(number) {
-        number += 1;
+fn main(rt: HostRuntime) -> io::Result<()> {
+    let mut input = rt.stdin();
+    for number in 1..u64::MAX {
+        if !one(&rt, &mut input, number)? {
+            break;
+        }
     }
+    Ok(())
 }
