@@ -1,4 +1,4 @@
--- Reading digits: one and no other byte for each value, one after the other, how large the next number can get, and that what `io::print_hex` writes is read back. Assumes nothing.
+-- Reading digits: one and no other byte for each value, one after the other, how large the next number can get, and that what `{:016x}` writes is read back. Assumes nothing.
 use Prim.Native.Nat.{ℕ, zero, suc, ◌+◌, ◌-◌, ◌*◌, ◌/◌, ◌%◌, ◌^◌, ◌≤◌, ◌<◌}
 use mathlib.Core.Path.{◌≡◌, refl, sym, ap, ◌∙◌}
 use mathlib.Core.Bool.{Bool, true, false, cond}
@@ -8,8 +8,10 @@ use native.Mathlib.Numerals.{add-one}
 use native.Mathlib.Omega.{arith}
 use borrow.Author.Tests.{ltb-true, ltb-false, leb-true, lt-ltb, le-ltb, le-leb, lt-leb, ne_eqb}
 use lib.Dec.{ltb, leb}
-use lib.ListN.{length, drop, get_or, length-append}
+use lib.ListN.{length, drop, get_or, replicate, length-append, length-replicate}
 use lib.Seq.{drop-cons}
+use Rattle.std.specs.Fmt.{digits, digits_onto, format_spec, padded_integral, char_count}
+use Rattle.std.proofs.lemmas.List.{replicate_more}
 use Rattle.digits.specs.declared.Number.TheVariants.{Is, Not}
 use Rattle.digits.specs.Digits.{digit_of, number_from, number_of}
 
@@ -128,3 +130,72 @@ reads_back k n h l =
   where
     zero-mul-add : (p : ℕ) → 0 * p + n ≡ n
     zero-mul-add p = omega arith
+
+-- ---- what `{:016x}` writes is the last sixteen digits
+zeros : (k : ℕ) → last_digits 16 k 0 ≡ replicate k 48
+zeros zero = refl
+zeros (suc k) = rw (zeros k) (replicate_more k 48 ∙ rw add-one refl)
+
+-- k digits of n and then the rest are zeros and what the loop of digits makes of them
+record Filled (k n : ℕ) (rest made : List ℕ) : Type 0 where
+  count : ℕ
+  same : last_digits 16 k n ++ rest ≡ replicate count 48 ++ made
+
+filled : (k n left : ℕ) (rest : List ℕ) → n < 16 ^ (suc k) → k < left → Filled (suc k) n rest (digits_onto left 16 false n rest)
+filled k n zero rest h l = absurd (omega arith)
+filled zero n (suc left) rest h l = record { count = 0; same = rw e refl }
+  where
+    e : n / 16 ≡ 0
+    e = omega (arith, h)
+filled (suc k) n (suc left) rest h l = go (ltb n 16) refl (filled k (n / 16) left (hex_digit_ascii (n % 16) ∷ rest) (front (16 ^ suc k) (rw pow-suc at h)) (omega arith))
+  where
+    front : (p : ℕ) → n < p * 16 → n / 16 < p
+    front p m = omega arith
+
+    above : 16 ≤ n → n / 16 ≡ 0 → ⊥
+    above m e = omega arith
+
+    go :
+        (t : Bool)
+        → ltb n 16 ≡ t
+        → Filled (suc k) (n / 16) (hex_digit_ascii (n % 16) ∷ rest) (digits_onto left 16 false (n / 16) (hex_digit_ascii (n % 16) ∷ rest))
+        → Filled (suc (suc k)) n rest (digits_onto (suc left) 16 false n rest)
+    go true e f =
+        let m : n < 16 = ltb-true n 16 e in
+        let none : n / 16 ≡ 0 = omega arith in
+        record { count = suc k; same = rw none (rw (zeros (suc k)) (append_assoc (replicate (suc k) 48) (hex_digit_ascii (n % 16) ∷ []) rest)) }
+    go false e f =
+        let m : 16 ≤ n = ltb-false n 16 e in
+        record {
+          count = f.count;
+          same = append_assoc (last_digits 16 (suc k) (n / 16)) (hex_digit_ascii (n % 16) ∷ []) rest ∙ rw (ne_eqb (n / 16) 0 (above m)) f.same;
+        }
+
+-- so zeros up to k digits give the last k of n
+padded_out : (k left n : ℕ) (made : List ℕ) → n < 16 ^ (suc k) → k < left → made ≡ digits_onto left 16 false n [] → replicate (suc k - length made) 48 ++ made ≡ last_digits 16 (suc k) n
+padded_out k left n made h l e =
+    let f = filled k n left [] h l in
+    let whole : last_digits 16 (suc k) n ≡ replicate f.count 48 ++ made =
+    sym (append-nil (last_digits 16 (suc k) n)) ∙ f.same ∙ ap (λ (x : List ℕ). replicate f.count 48 ++ x) (sym e) in
+    let long : suc k ≡ f.count + length made =
+    sym (written_length (suc k) n) ∙ ap length whole ∙ length-append (replicate f.count 48) made ∙ ap (λ (j : ℕ). j + length made) (length-replicate f.count 48) in
+    let left_out : suc k - length made ≡ f.count = omega (arith, long) in
+    rw left_out (sym whole)
+
+-- under the options 0 and width, the digits stand after zeros up to the width
+padded_with : (width : ℕ) (made : List ℕ) → padded_integral (format_spec 32 0 4 width (2 ^ 64 - 1)) false [] made ≡ replicate (width - length made) 48 ++ made
+unfolding padded_integral char_count
+padded_with width made =
+    let e : width - length made - 0 - 0 ≡ width - length made = omega arith in
+    ap (λ (j : ℕ). replicate j 48 ++ (made ++ [])) e ∙ ap (λ (x : List ℕ). replicate (width - length made) 48 ++ x) (append-nil made)
+
+looped : (n : ℕ) → digits 16 false n ≡ digits_onto 64 16 false n []
+unfolding digits
+looped n = refl
+
+pub written : (n : ℕ) → n < 16 ^ 16 → padded_integral (format_spec 32 0 4 16 (2 ^ 64 - 1)) false [] (digits 16 false n) ≡ last_digits 16 16 n
+written n h = padded_with 16 (digits 16 false n) ∙ padded_out 15 64 n (digits 16 false n) h (omega arith) (looped n)
+
+-- and it is read back
+pub reads_written : (n : ℕ) → n < 2 ^ 64 → number_of (padded_integral (format_spec 32 0 4 16 (2 ^ 64 - 1)) false [] (digits 16 false n)) ≡ Is n
+reads_written n h = ap number_of (written n (omega arith)) ∙ reads_back 16 n (omega arith) (omega arith)

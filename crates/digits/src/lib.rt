@@ -1,4 +1,4 @@
-// Numbers and doubles from hexadecimal digits, as io::print_hex writes them.
+// Numbers and doubles from hexadecimal digits, as the format {:016x} writes them.
 #![tactic(auto)]
 
 ghost use Rattle.std.specs.Prelude.{◌≡◌};
