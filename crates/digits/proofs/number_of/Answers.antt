@@ -13,9 +13,8 @@ use Rattle.digits.proofs.number_of.Goals.{Else-d-eq16}
 -- the number with one digit more
 next : (c : Else-d-eq16) → c.loop-i.n * 16 + c.digit-d.result < 16 ^ (c.loop-i.i + 1)
 next c =
-    let l = c in
-    let b = get_or l.args.digits.now l.loop-i.i 0 in
-    larger l.loop-i.n c.digit-d.result l.loop-i.i l.loop-i.invariant.1
+    let b = get_or c.args.digits.now c.loop-i.i 0 in
+    larger c.loop-i.n c.digit-d.result c.loop-i.i c.loop-i.invariant.1
     (rw c.digit-d.ensures (small b (λ e. c.if-d-eq16.false (c.digit-d.ensures ∙ e))))
 
 fits : (c : Else-d-eq16) → c.loop-i.n * 16 + c.digit-d.result < 16 ^ 16
@@ -30,16 +29,12 @@ returns-then-digits-gt16 c = rw (lt-ltb _ _ c.if-digits-gt16.true)
 pub loop-i-init : goal.loop-i-init
 loop-i-init c = (omega arith, omega arith, refl)
 
-pub bounds-digits-i : goal.bounds-digits-i
-bounds-digits-i c = omega arith
-
 pub returns-then-d-eq16 : goal.returns-then-d-eq16
 unfolding number_of
 returns-then-d-eq16 c =
-    let l = c in
-    let bs = l.args.digits.now in
-    rw (le-ltb _ _ l.if-digits-gt16.false)
-    (stops bs l.loop-i.n l.loop-i.i c.loop-i-test.true (sym c.digit-d.ensures ∙ c.if-d-eq16.true) ∙ l.loop-i.invariant.2)
+    let bs = c.args.digits.now in
+    rw (le-ltb _ _ c.if-digits-gt16.false)
+    (stops bs c.loop-i.n c.loop-i.i c.loop-i-test.true (sym c.digit-d.ensures ∙ c.if-d-eq16.true) ∙ c.loop-i.invariant.2)
 
 pub overflow_mul-n : goal.overflow_mul-n
 overflow_mul-n c = omega (arith, fits (goal.at.overflow_mul-n c).Else-d-eq16)
@@ -47,24 +42,16 @@ overflow_mul-n c = omega (arith, fits (goal.at.overflow_mul-n c).Else-d-eq16)
 pub overflow_add-n : goal.overflow_add-n
 overflow_add-n c = omega (arith, fits (goal.at.overflow_add-n c).Else-d-eq16)
 
-pub overflow_add-i : goal.overflow_add-i
-overflow_add-i c = omega arith
-
-pub loop-i-smaller : goal.loop-i-smaller
-loop-i-smaller c = omega arith
-
 pub loop-i-preserved : goal.loop-i-preserved
 loop-i-preserved c =
-    let l = c in
-    let bs = l.args.digits.now in (
+    let bs = c.args.digits.now in (
       omega arith,
       next (goal.at.loop-i-preserved c).Else-d-eq16,
       rw c.digit-d.ensures
-          (goes_on bs l.loop-i.n l.loop-i.i c.loop-i-test.true (λ e. c.if-d-eq16.false (c.digit-d.ensures ∙ e)) ∙ l.loop-i.invariant.2),
+          (goes_on bs c.loop-i.n c.loop-i.i c.loop-i-test.true (λ e. c.if-d-eq16.false (c.digit-d.ensures ∙ e)) ∙ c.loop-i.invariant.2),
     )
 
 pub returns : goal.returns
 unfolding number_of number_from
 returns c =
-    let l = c in
-    rw (le-ltb _ _ l.if-digits-gt16.false) (rw (drop_of_length-le l.args.digits.now c.loop-i-test.false) at l.loop-i.invariant.2)
+    rw (le-ltb _ _ c.if-digits-gt16.false) (rw (drop_of_length-le c.args.digits.now c.loop-i-test.false) at c.loop-i.invariant.2)
