@@ -71,7 +71,7 @@ module _ (vi vj : Float) (rs : List Row) where
   unfolding step_of
   sums_i_ii_ij_jj = read only_i_ii_ij_jj (λ s r. refl) (λ s. refl) refl
 
-  -- ---- the kinds up to POLY-IJ
+  -- ---- the kinds up to kind_poly_ij
   pub direct_sums : (kind : ℕ) → kind ≤ kind_poly_ij → (over (step_of kind vi vj) none rs).zero ≡ total (term_of kind vi vj) rs
   unfolding step_of
   direct_sums zero h = direct_sum vi vj none rs Not Not

@@ -60,6 +60,6 @@ nothing vi vj s r = s
 unfoldable pub step_of : ℕ → Step
 step_of kind = get_or kinds kind nothing
 
--- the terms of the kinds up to POLY-IJ
+-- the terms of the kinds up to kind_poly_ij
 abbrev pub term_of : ℕ → Float → Float → Row → Float
 term_of kind = term (get_or derived kind (Not, Not)).0 (get_or derived kind (Not, Not)).1
