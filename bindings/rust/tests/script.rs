@@ -10,6 +10,13 @@ use std::time::{Duration, SystemTime};
 /// A folder with the script, files that it builds from, and tools of its own.
 struct Clone(PathBuf);
 
+/// rt takes every crates.txt below the folder that it works in for a repository's, so none is left behind.
+impl Drop for Clone {
+    fn drop(&mut self) {
+        let _ = fs::remove_dir_all(&self.0);
+    }
+}
+
 impl Clone {
     fn new(name: &str) -> Clone {
         let root = Path::new(env!("CARGO_TARGET_TMPDIR")).join(name);

@@ -10,7 +10,8 @@ fn raised(x: f64, m: u32) -> f64
     let mut b = x;
     let mut k = m;
     while k != 0 {
-        if k % 2 == 1 {
+        let odd = k % 2 == 1;
+        if odd {
             r = r * b;
         }
         k = k / 2;

@@ -49,7 +49,8 @@ fn together(p: usize, T: usize, values: usize, numbers: usize) -> bool
     if T != p {
         return false;
     }
-    if values != p {
+    let other = values != p;
+    if other {
         return false;
     }
     numbers == p

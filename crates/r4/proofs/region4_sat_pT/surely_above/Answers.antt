@@ -18,7 +18,7 @@ returns-then-a c e =
     (of_true c.root_guess-root.type_inv)
     (record {
       square_above = of_true c.if-low.true;
-      square_below = of_true c.if-low-square.true;
+      square_below = of_true (assumption c);
       x_below = of_true c.if-square.true;
       sum-above = of_true c.if-bottom.true;
       sum_below = of_true c.if-bottom-2.true;

@@ -11,14 +11,14 @@ pub returns-then-T-p : goal.returns-then-T-p
 unfolding together
 returns-then-T-p c = rw (le-leb _ 4096 c.if-p-gt-LONGEST_LOG.false, ne_eqb _ _ c.if-T-p.true)
 
-pub returns-then-values-p : goal.returns-then-values-p
+pub returns-then-other : goal.returns-then-other
 unfolding together
-returns-then-values-p c =
+returns-then-other c =
     let lengths = c.args in
-    rw (le-leb _ 4096 c.if-p-gt-LONGEST_LOG.false, eq-eqb _ _ c.if-T-p.false, ne_eqb lengths.values lengths.p c.if-values-p.true)
+    rw (le-leb _ 4096 c.if-p-gt-LONGEST_LOG.false, eq-eqb _ _ c.if-T-p.false, ne_eqb lengths.values lengths.p c.if-other.true)
 
 pub returns : goal.returns
 unfolding together
 returns c =
     let lengths = c.args in
-    rw (le-leb _ 4096 c.if-p-gt-LONGEST_LOG.false, eq-eqb _ _ c.if-T-p.false, eq-eqb lengths.values lengths.p c.if-values-p.false)
+    rw (le-leb _ 4096 c.if-p-gt-LONGEST_LOG.false, eq-eqb _ _ c.if-T-p.false, eq-eqb lengths.values lengths.p c.if-other.false)
