@@ -267,6 +267,24 @@ fn elsewhere_than_on_a_terminal_a_line_tells_of_each_crate() {
 }
 
 #[test]
+fn where_the_symbols_have_a_crate_of_their_own_that_one_is_built() {
+    let rt = "echo 'checked climboat_c::pT, 1 of 1'\nmkdir -p crates/climboat_c/out\n: >crates/climboat_c/out/libclimboat_c.a";
+    let clone = Clone::proving("symbols", rt);
+    let crates = "exact:\nclimboat: exact\nclimboat_c staticlib: climboat exact\n";
+    fs::write(clone.0.join("crates.txt"), crates).unwrap();
+    fs::create_dir_all(clone.0.join("crates/climboat_c")).unwrap();
+    let output = clone.run();
+    let err = text(&output.stderr);
+    assert_eq!(output.status.code(), Some(1), "{err}");
+    let last = err.lines().rfind(|line| line.starts_with("staticlib: "));
+    assert_eq!(
+        last.map(untimed),
+        Some("staticlib: 3 of 3 crates proved, libclimboat.a made")
+    );
+    assert!(clone.0.join("target/native/libclimboat.a").exists());
+}
+
+#[test]
 fn on_a_terminal_one_line_is_written_over() {
     let Some(script) = found("script") else {
         eprintln!("the terminal is LEFT OUT: missing script");

@@ -26,7 +26,8 @@ fn digit(byte: u8) -> u64
     if byte < b'a' {
         return 16;
     }
-    if byte <= b'f' {
+    let letter = byte <= b'f';
+    if letter {
         return (byte - b'a') as u64 + 10;
     }
     16
@@ -56,7 +57,8 @@ pub fn number_of(digits: &[u8]) -> Number
 pub fn double(bits: u64) -> f64
     ensures { result ≡ of_bits binary64 bits }
 {
-    if bits % 0x8000_0000_0000_0000 > 0x7ff0_0000_0000_0000 {
+    let not_a_number = bits % 0x8000_0000_0000_0000 > 0x7ff0_0000_0000_0000;
+    if not_a_number {
         return 0.0 / 0.0;
     }
     f64::from_bits(bits)

@@ -92,7 +92,8 @@ fn found_at(value: f64, steps: u32, bracket: Bracket, inside: bool) -> Found
 fn residual_told(number: u32, residual: f64) -> f64
     ensures { result ≡ residual_told number residual }
 {
-    if number != 6 {
+    let other = number != 6;
+    if other {
         return residual;
     }
     if is_finite(residual) {

@@ -15,12 +15,12 @@ pub returns-then-byte-lt97 : goal.returns-then-byte-lt97
 unfolding digit_of
 returns-then-byte-lt97 c = rw (le-ltb _ _ c.if-byte-lt48.false, lt-leb _ _ c.if-byte-le57.false, lt-ltb _ _ c.if-byte-lt97.true)
 
-pub returns-then-byte-le102 : goal.returns-then-byte-le102
+pub returns-then-letter : goal.returns-then-letter
 unfolding digit_of
-returns-then-byte-le102 c =
-    rw (le-ltb _ _ c.if-byte-lt48.false, lt-leb _ _ c.if-byte-le57.false, le-ltb _ _ c.if-byte-lt97.false, le-leb _ _ c.if-byte-le102.true)
+returns-then-letter c =
+    rw (le-ltb _ _ c.if-byte-lt48.false, lt-leb _ _ c.if-byte-le57.false, le-ltb _ _ c.if-byte-lt97.false, le-leb _ _ c.if-letter.true)
 
 pub returns : goal.returns
 unfolding digit_of
 returns c =
-    rw (le-ltb _ _ c.if-byte-lt48.false, lt-leb _ _ c.if-byte-le57.false, le-ltb _ _ c.if-byte-lt97.false, lt-leb _ _ c.if-byte-le102.false)
+    rw (le-ltb _ _ c.if-byte-lt48.false, lt-leb _ _ c.if-byte-le57.false, le-ltb _ _ c.if-byte-lt97.false, lt-leb _ _ c.if-letter.false)

@@ -14,12 +14,12 @@ one_nan nan h = refl
 one_nan (inf s) h = absurd (true≢false (sym h))
 one_nan (fin s m e) h = absurd (true≢false (sym h))
 
-pub returns-then-bits-gt9218868437227405312 : goal.returns-then-bits-gt9218868437227405312
+pub returns-then-not_a_number : goal.returns-then-not_a_number
 unfolding div of_bits
-returns-then-bits-gt9218868437227405312 c =
+returns-then-not_a_number c =
     let b : ℕ = c.args.bits in
-    one_nan (of_bits binary64 b) (sym (nan_bits_is binary64 b) ∙ nan_bits_above binary64 b ∙ lt-ltb _ _ c.if-bits-gt9218868437227405312.true)
+    one_nan (of_bits binary64 b) (sym (nan_bits_is binary64 b) ∙ nan_bits_above binary64 b ∙ lt-ltb _ _ c.if-not_a_number.true)
 
 pub float_from_bits-result : goal.float_from_bits-result
 float_from_bits-result c =
-    subst (λ (t : Bool). T (not t)) (sym (nan_bits_above binary64 c.args.bits ∙ le-ltb _ _ c.if-bits-gt9218868437227405312.false)) tt
+    subst (λ (t : Bool). T (not t)) (sym (nan_bits_above binary64 c.args.bits ∙ le-ltb _ _ c.if-not_a_number.false)) tt
