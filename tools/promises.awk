@@ -11,8 +11,9 @@ FNR == NR && $1 == "path" { paths[$2]; next }
 FNR == NR {
     have[$1, $2, $3]; where[$1, $3] = where[$1, $3] " " $2
     if ($1 == "edit") { edits[$2 " " $3]; edit_count++ }
-    if ($1 == "code" && $5 != "") { contracts[$2 " " $3] = $5 }
-    if ($1 == "code" && $4 == "pub" && ($2 == "vessel" || $2 == "climboat")) { calls[$2 " " $3] = $6; call_count++ }
+    # conversions from two types have one name: each must be an equation, and none may require anything
+    if ($1 == "code" && $5 != "" && !(($2 " " $3) in contracts && !contracts[$2 " " $3])) { contracts[$2 " " $3] = $5 }
+    if ($1 == "code" && $4 == "pub" && ($2 == "vessel" || $2 == "climboat")) { calls[$2 " " $3] += $6; call_count++ }
     next
 }
 

@@ -3,6 +3,7 @@
 use Prim.Native.Nat.{ℕ}
 use mathlib.Core.Path.{refl}
 use lib.Ieee.{Float}
+use Rattle.std.specs.Prelude.{Option, Some, None}
 use Rattle.pairs.specs.declared.row.Region.{Region}
 use Rattle.vessel.specs.Asked.{of_pair}
 use Rattle.vessel.specs.Patience.{Patient}
@@ -10,26 +11,24 @@ use Rattle.vessel.specs.Searches as searches
 use Rattle.vessel.proofs.Patience as vessel
 use Rattle.vessel.specs.declared.asked.Asked.{Asked}
 use Rattle.vessel.specs.declared.asked.Kind.TheVariants.{Pv}
-use Rattle.vessel.specs.declared.asked.NamedRegion.{NamedRegion}
-use Rattle.vessel.specs.declared.asked.NamedRegion.TheVariants.{Names, Nothing}
+use Rattle.vessel.specs.declared.pair.PvRegion.{PvRegion}
 use Rattle.vessel.specs.declared.answer.Answer.{Answer}
-use Rattle.climboat.specs.Names.{region_named, pv_region_named}
+use Rattle.pairs.specs.Names.{region_named}
+use Rattle.vessel.specs.Names.{pv_region_named}
 use Rattle.climboat.specs.Calls.{in_region, in_pv_region, pv2T, Tv2p, Th2p, Ts2p}
-use Rattle.climboat.specs.declared.names.NamedPvRegion.{NamedPvRegion}
-use Rattle.climboat.specs.declared.names.NamedPvRegion.TheVariants.{Names as Names', Nothing as Nothing'}
 
-in_a_region : (a : Asked) (call : Region → ℕ → Answer) → ((r : Region) → Patient (call r)) → (n : NamedRegion) → Patient (λ limit. in_region n a (λ r. call r limit))
+in_a_region : (a : Asked) (call : Region → ℕ → Answer) → ((r : Region) → Patient (call r)) → (n : Option Region) → Patient (λ limit. in_region n a (λ r. call r limit))
 unfolding in_region
-in_a_region a call patient (Names r) = patient r
-in_a_region a call patient Nothing = λ limit larger l allowed h. refl
+in_a_region a call patient (Some r) = patient r
+in_a_region a call patient None = λ limit larger l allowed h. refl
 
 pub pv2T_patient : (region : ℕ) (p v : Float) → Patient (pv2T region p v)
 unfolding pv2T in_pv_region
 pv2T_patient region p v = by (pv_region_named region)
   where
-    by : (n : NamedPvRegion) → Patient (λ limit. in_pv_region n (of_pair Pv Nothing p v) (λ r. searches.pv2T r p v limit))
-    by (Names' r) = vessel.pv2T_patient r p v
-    by Nothing' = λ limit larger l allowed h. refl
+    by : (n : Option PvRegion) → Patient (λ limit. in_pv_region n (of_pair Pv None p v) (λ r. searches.pv2T r p v limit))
+    by (Some r) = vessel.pv2T_patient r p v
+    by None = λ limit larger l allowed h. refl
 
 pub Tv2p_patient : (region : ℕ) (t v : Float) → Patient (Tv2p region t v)
 unfolding Tv2p

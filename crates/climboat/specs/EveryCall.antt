@@ -1,17 +1,16 @@
 -- Every call of the C interface with its arguments: what it asks, by the numbers that it is given, and what it answers. proofs/EveryCall.antt is the one theorem that covers all, 21 included.
-use Rattle.std.specs.Prelude.{ℕ, Float}
+use Rattle.std.specs.Prelude.{ℕ, Float, Option, Some, None}
 use Rattle.vessel.specs.Asked.{at_state, on_line, of_pair}
 use Rattle.vessel.specs.Calls as lines
 use Rattle.vessel.specs.EveryCall.{region_of}
 use Rattle.vessel.specs.declared.asked.Asked.{Asked}
 use Rattle.vessel.specs.declared.asked.Kind as kind
-use Rattle.vessel.specs.declared.asked.NamedRegion.{NamedRegion}
-use Rattle.vessel.specs.declared.asked.NamedRegion.TheVariants.{Names, Nothing}
+use Rattle.vessel.specs.Names.{pv_region_named, property_named}
+use Rattle.vessel.specs.declared.pair.PvRegion.{PvRegion}
+use Rattle.pairs.specs.Names.{region_named}
+use Rattle.pairs.specs.declared.row.Region.{Region}
 use Rattle.vessel.specs.declared.answer.Answer.{Answer}
-use Rattle.climboat.specs.Names.{region_named, pv_region_named, property_named}
 use Rattle.climboat.specs.Calls as calls
-use Rattle.climboat.specs.declared.names.NamedPvRegion.{NamedPvRegion}
-use Rattle.climboat.specs.declared.names.NamedPvRegion.TheVariants.{Names as Names', Nothing as Nothing'}
 
 -- regions and properties by number; a search's last argument is its step limit
 pub data Call : Type 0 where
@@ -26,9 +25,9 @@ pub data Call : Type 0 where
   Ts2p : ℕ → Float → Float → ℕ → Call
 
 -- the region of (p,v), among all regions
-abbrev pub of_pv : NamedPvRegion → NamedRegion
-of_pv (Names' region) = Names (region_of region)
-of_pv Nothing' = Nothing
+abbrev pub of_pv : Option PvRegion → Option Region
+of_pv (Some region) = Some (region_of region)
+of_pv None = None
 
 abbrev pub asks : Call → Asked
 asks (pT region property p T) = at_state (region_named region) (property_named property) p T

@@ -1,4 +1,3 @@
-pub mod Names
 pub mod Record
 pub mod Calls
 pub mod EveryCall

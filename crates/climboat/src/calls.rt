@@ -3,26 +3,28 @@ ghost use Rattle.std.specs.Prelude.{◌≡◌};
 ghost use Rattle.vessel.specs.Log.{lent};
 ghost use Rattle.climboat.specs.Calls.{pT as pTof, pT_log as pT_log_of, pv2T as pv2Tof, Tv2p as Tv2p_of, Th2p as Th2p_of, Ts2p as Ts2p_of};
 
-use crate::names::NamedPvRegion;
+use common::cause::Cause;
+use pairs::row::Region;
 use vessel::answer::{Answer, refused};
-use vessel::asked::{Kind, NamedProperty, NamedRegion, at_state, of_pair};
+use vessel::asked::{Kind, at_state, of_pair};
+use vessel::pair::PvRegion;
+use vessel::property::Property;
 
+#[tactic(auto, unfolding(crate::specs::Calls::pT, crate::specs::Calls::in_region, crate::specs::Calls::of_property))]
 pub fn pT(region: u32, property: u32, p: f64, T: f64) -> Answer
     ensures { result ≡ pTof region property p T }
 {
-    let named_region = crate::names::region(region);
-    let named_property = crate::names::property(property);
-    let asked = at_state(named_region, named_property, p, T);
-    let NamedRegion::Names(in_region) = named_region else {
-        return refused(asked, 21);
+    let region = Region::try_from(region).ok();
+    let property = Property::try_from(property).ok();
+    let asked = at_state(region, property, p, T);
+    let (Some(region), Some(property)) = (region, property) else {
+        return refused(asked, Cause::NamesNothing);
     };
-    let NamedProperty::Names(of_property) = named_property else {
-        return refused(asked, 21);
-    };
-    vessel::property::pT(in_region, of_property, p, T)
+    vessel::property::pT(region, property, p, T)
 }
 
 // Where a number names nothing 21 comes back, and nothing is written.
+#[tactic(auto, unfolding(crate::specs::Calls::pT_log, crate::specs::Calls::named_log))]
 pub fn pT_log(
     region: u32,
     property: u32,
@@ -30,52 +32,54 @@ pub fn pT_log(
     T: &[f64],
     values: &mut [f64],
     numbers: &mut [u32],
-) -> u32
-    ensures value { result ≡ (pT_log_of region property (lent p.now T.now values.old numbers.old)).number }
+) -> Result<(), Cause>
+    ensures value { result ≡ (pT_log_of region property (lent p.now T.now values.old numbers.old)).back }
     ensures values_after { values.new ≡ (pT_log_of region property (lent p.now T.now values.old numbers.old)).values }
     ensures numbers_after { numbers.new ≡ (pT_log_of region property (lent p.now T.now values.old numbers.old)).numbers }
 {
-    let NamedRegion::Names(in_region) = crate::names::region(region) else {
-        return 21;
+    let (Ok(region), Ok(property)) = (Region::try_from(region), Property::try_from(property)) else {
+        return Err(Cause::NamesNothing);
     };
-    let NamedProperty::Names(of_property) = crate::names::property(property) else {
-        return 21;
-    };
-    vessel::log::pT_log(in_region, of_property, p, T, values, numbers)
+    vessel::log::pT_log(region, property, p, T, values, numbers)
 }
 
+#[tactic(auto, unfolding(crate::specs::Calls::pv2T, crate::specs::Calls::in_pv_region))]
 pub fn pv2T(region: u32, p: f64, v: f64, limit: u32) -> Answer
     ensures { result ≡ pv2Tof region p v limit }
 {
-    let NamedPvRegion::Names(in_region) = crate::names::pv_region(region) else {
-        return refused(of_pair(Kind::Pv, NamedRegion::Nothing, p, v), 21);
+    let Ok(region) = PvRegion::try_from(region) else {
+        return refused(of_pair(Kind::Pv, None, p, v), Cause::NamesNothing);
     };
-    vessel::pair::pv2T(in_region, p, v, limit)
+    vessel::pair::pv2T(region, p, v, limit)
 }
 
+// This call and the two below differ in their search alone: each takes its region apart itself, since one function over a closure is no plainer.
+#[tactic(auto, unfolding(crate::specs::Calls::Tv2p, crate::specs::Calls::in_region))]
 pub fn Tv2p(region: u32, T: f64, v: f64, limit: u32) -> Answer
     ensures { result ≡ Tv2p_of region T v limit }
 {
-    let NamedRegion::Names(in_region) = crate::names::region(region) else {
-        return refused(of_pair(Kind::Tv, NamedRegion::Nothing, T, v), 21);
+    let Ok(region) = Region::try_from(region) else {
+        return refused(of_pair(Kind::Tv, None, T, v), Cause::NamesNothing);
     };
-    vessel::pair::Tv2p(in_region, T, v, limit)
+    vessel::pair::Tv2p(region, T, v, limit)
 }
 
+#[tactic(auto, unfolding(crate::specs::Calls::Th2p, crate::specs::Calls::in_region))]
 pub fn Th2p(region: u32, T: f64, h: f64, limit: u32) -> Answer
     ensures { result ≡ Th2p_of region T h limit }
 {
-    let NamedRegion::Names(in_region) = crate::names::region(region) else {
-        return refused(of_pair(Kind::Th, NamedRegion::Nothing, T, h), 21);
+    let Ok(region) = Region::try_from(region) else {
+        return refused(of_pair(Kind::Th, None, T, h), Cause::NamesNothing);
     };
-    vessel::pair::Th2p(in_region, T, h, limit)
+    vessel::pair::Th2p(region, T, h, limit)
 }
 
+#[tactic(auto, unfolding(crate::specs::Calls::Ts2p, crate::specs::Calls::in_region))]
 pub fn Ts2p(region: u32, T: f64, s: f64, limit: u32) -> Answer
     ensures { result ≡ Ts2p_of region T s limit }
 {
-    let NamedRegion::Names(in_region) = crate::names::region(region) else {
-        return refused(of_pair(Kind::Ts, NamedRegion::Nothing, T, s), 21);
+    let Ok(region) = Region::try_from(region) else {
+        return refused(of_pair(Kind::Ts, None, T, s), Cause::NamesNothing);
     };
-    vessel::pair::Ts2p(in_region, T, s, limit)
+    vessel::pair::Ts2p(region, T, s, limit)
 }

@@ -4,11 +4,11 @@
 ghost use Rattle.std.specs.Prelude.{◌≡◌};
 ghost use Rattle.vessel.specs.Calls.{saturation_pressure, saturation_temperature, B23_pressure, B23_temperature};
 ghost use Rattle.vessel.specs.Log.{lent};
+ghost use Rattle.vessel.specs.Range.{number};
 ghost use Rattle.climboat.specs.Calls.{pT, pT_log, pv2T, Tv2p, Th2p, Ts2p};
 ghost use Rattle.climboat.specs.Record.{numbers as numbers_of, doubles as doubles_of};
 
 pub mod calls;
-pub mod names;
 pub mod record;
 
 // A property by (p,T).
@@ -23,9 +23,7 @@ pub fn climboat_pT_columns(
     ensures numbers_after { numbers.new ≡ numbers_of (pT region property p T) }
     ensures doubles_after { doubles.new ≡ doubles_of (pT region property p T) }
 {
-    let answer = calls::pT(region, property, p, T);
-    *numbers = record::numbers(answer);
-    *doubles = record::doubles(answer);
+    record::write(calls::pT(region, property, p, T), numbers, doubles);
 }
 
 // A property at every (p,T) of a log: each run is a pointer and a length.
@@ -37,11 +35,14 @@ pub fn climboat_pT_log_runs(
     values: &mut [f64],
     numbers: &mut [u32],
 ) -> u32
-    ensures value { result ≡ (pT_log region property (lent p.now T.now values.old numbers.old)).number }
+    ensures value { result ≡ number (pT_log region property (lent p.now T.now values.old numbers.old)).back }
     ensures values_after { values.new ≡ (pT_log region property (lent p.now T.now values.old numbers.old)).values }
     ensures numbers_after { numbers.new ≡ (pT_log region property (lent p.now T.now values.old numbers.old)).numbers }
 {
-    calls::pT_log(region, property, p, T, values, numbers)
+    match calls::pT_log(region, property, p, T, values, numbers) {
+        Ok(()) => 0,
+        Err(cause) => cause.number(),
+    }
 }
 
 // The pressure of the saturation line at T.
@@ -49,9 +50,7 @@ pub fn climboat_saturation_pressure_columns(T: f64, numbers: &mut [u32; 8], doub
     ensures numbers_after { numbers.new ≡ numbers_of (saturation_pressure T) }
     ensures doubles_after { doubles.new ≡ doubles_of (saturation_pressure T) }
 {
-    let answer = vessel::saturation::saturation_pressure(T);
-    *numbers = record::numbers(answer);
-    *doubles = record::doubles(answer);
+    record::write(vessel::saturation::saturation_pressure(T), numbers, doubles);
 }
 
 // The temperature of the saturation line at p.
@@ -63,9 +62,11 @@ pub fn climboat_saturation_temperature_columns(
     ensures numbers_after { numbers.new ≡ numbers_of (saturation_temperature p) }
     ensures doubles_after { doubles.new ≡ doubles_of (saturation_temperature p) }
 {
-    let answer = vessel::saturation::saturation_temperature(p);
-    *numbers = record::numbers(answer);
-    *doubles = record::doubles(answer);
+    record::write(
+        vessel::saturation::saturation_temperature(p),
+        numbers,
+        doubles,
+    );
 }
 
 // The pressure of B23 at T.
@@ -73,9 +74,7 @@ pub fn climboat_B23_pressure_columns(T: f64, numbers: &mut [u32; 8], doubles: &m
     ensures numbers_after { numbers.new ≡ numbers_of (B23_pressure T) }
     ensures doubles_after { doubles.new ≡ doubles_of (B23_pressure T) }
 {
-    let answer = vessel::saturation::B23_pressure(T);
-    *numbers = record::numbers(answer);
-    *doubles = record::doubles(answer);
+    record::write(vessel::saturation::B23_pressure(T), numbers, doubles);
 }
 
 // The temperature of B23 at p.
@@ -83,9 +82,7 @@ pub fn climboat_B23_temperature_columns(p: f64, numbers: &mut [u32; 8], doubles:
     ensures numbers_after { numbers.new ≡ numbers_of (B23_temperature p) }
     ensures doubles_after { doubles.new ≡ doubles_of (B23_temperature p) }
 {
-    let answer = vessel::saturation::B23_temperature(p);
-    *numbers = record::numbers(answer);
-    *doubles = record::doubles(answer);
+    record::write(vessel::saturation::B23_temperature(p), numbers, doubles);
 }
 
 // (p,v) to T.
@@ -100,9 +97,7 @@ pub fn climboat_pv2T_columns(
     ensures numbers_after { numbers.new ≡ numbers_of (pv2T region p v limit) }
     ensures doubles_after { doubles.new ≡ doubles_of (pv2T region p v limit) }
 {
-    let answer = calls::pv2T(region, p, v, limit);
-    *numbers = record::numbers(answer);
-    *doubles = record::doubles(answer);
+    record::write(calls::pv2T(region, p, v, limit), numbers, doubles);
 }
 
 // (T,v) to p.
@@ -117,9 +112,7 @@ pub fn climboat_Tv2p_columns(
     ensures numbers_after { numbers.new ≡ numbers_of (Tv2p region T v limit) }
     ensures doubles_after { doubles.new ≡ doubles_of (Tv2p region T v limit) }
 {
-    let answer = calls::Tv2p(region, T, v, limit);
-    *numbers = record::numbers(answer);
-    *doubles = record::doubles(answer);
+    record::write(calls::Tv2p(region, T, v, limit), numbers, doubles);
 }
 
 // (T,h) to p.
@@ -134,9 +127,7 @@ pub fn climboat_Th2p_columns(
     ensures numbers_after { numbers.new ≡ numbers_of (Th2p region T h limit) }
     ensures doubles_after { doubles.new ≡ doubles_of (Th2p region T h limit) }
 {
-    let answer = calls::Th2p(region, T, h, limit);
-    *numbers = record::numbers(answer);
-    *doubles = record::doubles(answer);
+    record::write(calls::Th2p(region, T, h, limit), numbers, doubles);
 }
 
 // (T,s) to p.
@@ -151,7 +142,5 @@ pub fn climboat_Ts2p_columns(
     ensures numbers_after { numbers.new ≡ numbers_of (Ts2p region T s limit) }
     ensures doubles_after { doubles.new ≡ doubles_of (Ts2p region T s limit) }
 {
-    let answer = calls::Ts2p(region, T, s, limit);
-    *numbers = record::numbers(answer);
-    *doubles = record::doubles(answer);
+    record::write(calls::Ts2p(region, T, s, limit), numbers, doubles);
 }

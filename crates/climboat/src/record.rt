@@ -5,15 +5,24 @@ ghost use Rattle.climboat.specs.Record.{mark_number, four as four_of, told as to
 
 use search::bracket::Bracket;
 use vessel::answer::Answer;
-use vessel::asked::Asked;
+use vessel::asked::{Asked, property_number, region_number};
 
+// An answer without a mark has 0 in its place.
+#[tactic(auto, unfolding(crate::specs::Record::mark_number))]
 fn mark(inside: bool) -> u32
     ensures { result ≡ mark_number inside }
 {
-    if inside {
-        return 1;
-    }
-    2
+    if inside { 1 } else { 2 }
+}
+
+// Why an answer is what it is; a refusal has no reason.
+#[derive(Clone, Copy)]
+enum Reason {
+    None = 0,
+    Plain = 1,
+    ExactEnd = 2,
+    SmallResidual = 3,
+    Narrow = 4,
 }
 
 // The first four numbers: number, reason, steps, mark.
@@ -36,15 +45,21 @@ fn four(number: u32, reason: u32, steps: u32, mark: u32) -> First
     }
 }
 
+#[tactic(auto, unfolding(crate::specs::Record::mark_number))]
 fn told(answer: Answer) -> First
     ensures { result ≡ told_of answer }
 {
     match answer {
-        Answer::Value(asked, x) => four(0, 1, 0, 0),
-        Answer::ExactEnd(asked, f) => four(0, 2, f.steps, mark(f.inside)),
-        Answer::SmallResidual(asked, f) => four(0, 3, f.steps, mark(f.inside)),
-        Answer::Narrow(asked, f) => four(0, 4, f.steps, mark(f.inside)),
-        Answer::Refused(asked, r) => four(r.number, 0, r.steps, 0),
+        Answer::Value(asked, x) => four(0, Reason::Plain as u32, 0, 0),
+        Answer::ExactEnd(asked, f) => four(0, Reason::ExactEnd as u32, f.steps, mark(f.inside)),
+        Answer::SmallResidual(asked, f) => four(
+            0,
+            Reason::SmallResidual as u32,
+            f.steps,
+            mark(f.inside),
+        ),
+        Answer::Narrow(asked, f) => four(0, Reason::Narrow as u32, f.steps, mark(f.inside)),
+        Answer::Refused(asked, r) => four(r.cause.number(), Reason::None as u32, r.steps, 0),
     }
 }
 
@@ -68,36 +83,35 @@ fn asked(answer: Answer) -> Asked
     ensures { result ≡ (columns answer).asked }
 {
     match answer {
-        Answer::Value(asked, x) => asked,
-        Answer::ExactEnd(asked, f) => asked,
-        Answer::SmallResidual(asked, f) => asked,
-        Answer::Narrow(asked, f) => asked,
-        Answer::Refused(asked, r) => asked,
+        Answer::Value(asked, _)
+        | Answer::ExactEnd(asked, _)
+        | Answer::SmallResidual(asked, _)
+        | Answer::Narrow(asked, _)
+        | Answer::Refused(asked, _) => asked,
     }
 }
 
 // Number, reason, steps, mark, region, kind, property, 0. What it is of is taken out first, so that its numbers are looked up in one place: so short this is taken into every call.
+#[tactic(auto, unfolding(crate::specs::Record::numbers))]
 pub fn numbers(answer: Answer) -> [u32; 8]
     ensures { result ≡ numbers_of answer }
 {
     let first = told(answer);
     let of = asked(answer);
-    let region = of.region;
-    let kind = of.kind;
-    let property = of.property;
     [
         first.number,
         first.reason,
         first.steps,
         first.mark,
-        region.number(),
-        kind.number(),
-        property.number(),
+        region_number(of.region),
+        of.kind.number(),
+        property_number(of.property),
         0,
     ]
 }
 
 // Value, lower end, upper end, the residuals there, first input, second input, 0.
+#[tactic(auto, unfolding(crate::specs::Record::doubles))]
 pub fn doubles(answer: Answer) -> [f64; 8]
     ensures { result ≡ doubles_of answer }
 {
@@ -112,9 +126,18 @@ pub fn doubles(answer: Answer) -> [f64; 8]
             },
             asked,
         ),
-        Answer::ExactEnd(asked, f) => fractions(f.value, f.bracket, asked),
-        Answer::SmallResidual(asked, f) => fractions(f.value, f.bracket, asked),
-        Answer::Narrow(asked, f) => fractions(f.value, f.bracket, asked),
+        Answer::ExactEnd(asked, f) | Answer::SmallResidual(asked, f) | Answer::Narrow(asked, f) =>
+            fractions(f.value, f.bracket, asked),
         Answer::Refused(asked, r) => fractions(r.value, r.bracket, asked),
     }
+}
+
+// An answer into the two lent arrays. It is marked to be taken into every call: as a call of its own it costs each 17 ns.
+#[inline(always)]
+pub fn write(answer: Answer, numbers: &mut [u32; 8], doubles: &mut [f64; 8])
+    ensures numbers_after { numbers.new ≡ numbers_of answer }
+    ensures doubles_after { doubles.new ≡ doubles_of answer }
+{
+    *numbers = self::numbers(answer);
+    *doubles = self::doubles(answer);
 }

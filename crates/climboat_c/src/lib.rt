@@ -4,6 +4,7 @@
 ghost use Rattle.std.specs.Prelude.{◌≡◌};
 ghost use Rattle.vessel.specs.Calls.{saturation_pressure, saturation_temperature, B23_pressure, B23_temperature};
 ghost use Rattle.vessel.specs.Log.{lent};
+ghost use Rattle.vessel.specs.Range.{number};
 ghost use Rattle.climboat.specs.Calls.{pT, pT_log, pv2T, Tv2p, Th2p, Ts2p};
 ghost use Rattle.climboat.specs.Record.{numbers as numbers_of, doubles as doubles_of};
 
@@ -33,7 +34,7 @@ pub extern "C" fn climboat_pT_log_runs(
     values: &mut [f64],
     numbers: &mut [u32],
 ) -> u32
-    ensures value { result ≡ (pT_log region property (lent p.now T.now values.old numbers.old)).number }
+    ensures value { result ≡ number (pT_log region property (lent p.now T.now values.old numbers.old)).back }
     ensures values_after { values.new ≡ (pT_log region property (lent p.now T.now values.old numbers.old)).values }
     ensures numbers_after { numbers.new ≡ (pT_log region property (lent p.now T.now values.old numbers.old)).numbers }
 {

@@ -1,5 +1,5 @@
 -- The boundary between regions 2 and 3 (B23) in document 01's order of operations, the ranges of document 01 that read no boundary, and what a boundary answers.
-use Rattle.std.specs.Prelude.{ℕ, Bool, true, false, ◌&&◌, cond, Float}
+use Rattle.std.specs.Prelude.{Bool, true, false, ◌&&◌, cond, Result, Ok, Err, Float}
 use Rattle.std.specs.Float.Ieee.{le}
 use Rattle.std.specs.Float.Ieee.Scale.{finite}
 use Rattle.exact.specs.Operations.{◌⊕◌, ◌⊖◌, ◌⊗◌, ◌⊘◌}
@@ -9,8 +9,8 @@ use Rattle.common.specs.Constant.{T_least, T_623, T_critical, T_863, T_1073, T_2
 use Rattle.common.specs.Table1.{n1, n2, n3, n4, n5}
 use Rattle.common.specs.declared.boundaries.Range.{Range}
 use Rattle.common.specs.declared.boundaries.Range.TheVariants.{T1, P1, T2, P2, T5, P5, T4, P4, T23, P23}
-use Rattle.common.specs.declared.boundaries.Boundary.{Boundary}
-use Rattle.common.specs.declared.boundaries.Boundary.TheVariants.{At, Refused}
+use Rattle.common.specs.declared.cause.Cause.{Cause}
+use Rattle.common.specs.declared.cause.Cause.TheVariants.{InputNotFinite, TemperatureOutOfRange, PressureOutOfRange, ResultNotFinite}
 
 -- Eq. (5): p = n1 + T·(n2 + T·n3). At 623.15 K: 16.5291643 MPa.
 unfoldable pub B23_p : Float → Float
@@ -49,7 +49,7 @@ most P23 = p_most
 unfoldable pub inside : Range → Float → Bool
 inside range x = le (least range) x && le x (most range)
 
--- ---- the number that refuses what lies outside: 3 for a pressure, 2 for a temperature
+-- ---- why what lies outside is refused: 3 for a pressure, 2 for a temperature
 abbrev pub of_pressures : Range → Bool
 of_pressures T1 = false
 of_pressures P1 = true
@@ -62,14 +62,14 @@ of_pressures P4 = true
 of_pressures T23 = false
 of_pressures P23 = true
 
-unfoldable pub number_of : Range → ℕ
-number_of range = cond (of_pressures range) 3 2
+unfoldable pub cause_of : Range → Cause
+cause_of range = cond (of_pressures range) PressureOutOfRange TemperatureOutOfRange
 
 -- ---- what a boundary answers
 -- as a bracket end or a region's boundary: 9 where it is not finite
-unfoldable pub found : Float → Boundary
-found result = cond (finite result) (At result) (Refused 9)
+unfoldable pub found : Float → Result Float Cause
+found value = cond (finite value) (Ok value) (Err ResultNotFinite)
 
 -- as a call: 1 for an input that is not finite, 2 or 3 outside its range, 9 for a result that is not finite
-unfoldable pub checked : Range → Float → Float → Boundary
-checked range x result = cond (finite x) (cond (inside range x) (found result) (Refused (number_of range))) (Refused 1)
+unfoldable pub checked : Range → Float → Float → Result Float Cause
+checked range x value = cond (finite x) (cond (inside range x) (found value) (Err (cause_of range))) (Err InputNotFinite)

@@ -1,3 +1,4 @@
 pub mod Constant
 pub mod Table1
+pub mod Causes
 pub mod Boundaries

@@ -1,4 +1,4 @@
-// The numbers of the Rust's common/constant.rs that are used here. INVALID_VALUE is gone: what was -9999 is a refusal with a number.
+// The numbers of the Rust's common/constant.rs that are used here. INVALID_VALUE is gone: what was -9999 is a refusal with its cause.
 
 // the specific gas constant in kJ/(kg K)
 pub const RGAS_WATER: f64 = 0.461526;

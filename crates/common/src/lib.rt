@@ -1,5 +1,6 @@
-// What every region uses: the numbers, and the boundaries between regions.
+// What every region uses: the numbers, the causes of refusals, and the boundaries between regions.
 #![tactic(auto)]
 
 pub mod boundaries;
+pub mod cause;
 pub mod constant;

@@ -2,17 +2,19 @@
 use Prim.Native.Nat.{ℕ, zero, suc, ◌+◌, ◌-◌, ◌*◌, ◌/◌, ◌%◌, ◌^◌, ◌≤◌, ◌<◌}
 use mathlib.Core.Path.{◌≡◌, refl, sym, ap, ◌∙◌}
 use mathlib.Core.Bool.{Bool, true, false, cond}
+use mathlib.Core.Logic.{◌⊎◌}
 use mathlib.Core.List.{List, [], ◌∷◌, ◌++◌, append_assoc, append-nil}
-use native.Mathlib.Nat.{pow-zero, pow-suc}
+use native.Mathlib.Nat.{pow-zero, pow-suc, lt_of_lt_of_le, pow-le-pow_right}
 use native.Mathlib.Numerals.{add-one}
 use native.Mathlib.Omega.{arith}
-use borrow.Author.Tests.{ltb-true, ltb-false, leb-true, lt-ltb, le-ltb, le-leb, lt-leb, ne_eqb}
-use lib.Dec.{ltb, leb}
+use borrow.Author.Tests.{ltb-true, ltb-false, le-ltb, ne_eqb}
+use lib.Dec.{ltb, lit<}
 use lib.ListN.{length, drop, get_or, replicate, length-append, length-replicate}
 use lib.Seq.{drop-cons}
 use Rattle.std.specs.Fmt.{digits, digits_onto, format_spec, padded_integral, char_count}
 use Rattle.std.proofs.lemmas.List.{replicate_more}
-use Rattle.digits.specs.declared.Number.TheVariants.{Is, Not}
+use Rattle.std.specs.Prelude.{Some, None}
+use Rattle.std.proofs.lemmas.Bool.Decides.{nat_tests}
 use Rattle.digits.specs.Digits.{digit_of, number_from, number_of}
 
 -- ---- how a number is written
@@ -26,66 +28,29 @@ last_digits b zero n = []
 last_digits b (suc k) n = last_digits b k (n / b) ++ (hex_digit_ascii (n % b) ∷ [])
 
 -- ---- one digit
-pub digit_most : (b : ℕ) → digit_of b ≤ 16
-unfolding digit_of
-digit_most b = go (ltb b 48) (leb b 57) (ltb b 97) (leb b 102) refl refl refl refl
-  where
-    go : (s t u v : Bool) → ltb b 48 ≡ s → leb b 57 ≡ t → ltb b 97 ≡ u → leb b 102 ≡ v → cond s 16 (cond t (b - 48) (cond u 16 (cond v (b - 97 + 10) 16))) ≤ 16
-    go true t u v p q r w = omega arith
-    go false true u v p q r w = omega (arith, leb-true b 57 q)
-    go false false true v p q r w = omega arith
-    go false false false true p q r w = omega (arith, leb-true b 102 w)
-    go false false false false p q r w = omega arith
+digit_cases : (b d : ℕ) → digit_of b ≡ Some d → ((48 ≤ b) × (b ≤ 57) × (d ≡ b - 48)) ⊎ ((97 ≤ b) × (b ≤ 102) × (d ≡ b - 97 + 10))
+digit_cases b d h = grind (arith, nat_tests)
+
+pub digit_small : (b d : ℕ) → digit_of b ≡ Some d → d < 16
+digit_small b d h = let e = digit_cases b d h in omega arith
 
 -- the digit that is written for d is read as d
-pub digit_back : (d : ℕ) → d < 16 → digit_of (hex_digit_ascii d) ≡ d
-unfolding digit_of
-digit_back d h = go (ltb d 10) refl
-  where
-    go : (t : Bool) → ltb d 10 ≡ t → digit_of (cond t (48 + d) (87 + d)) ≡ d
-    go true e =
-        let l : d < 10 = ltb-true d 10 e in
-        rw (le-ltb (48 + d) 48 (omega arith), le-leb (48 + d) 57 (omega arith)) (omega arith)
-    go false e =
-        let l : 10 ≤ d = ltb-false d 10 e in
-        rw (le-ltb (87 + d) 48 (omega arith), lt-leb (87 + d) 57 (omega arith), le-ltb (87 + d) 97 (omega arith), le-leb (87 + d) 102 (omega arith)) (omega arith)
+pub digit_back : (d : ℕ) → d < 16 → digit_of (hex_digit_ascii d) ≡ Some d
+digit_back d h = grind (arith, nat_tests)
 
 -- and no other byte is read as d
-pub digit_only : (b : ℕ) → digit_of b < 16 → b ≡ hex_digit_ascii (digit_of b)
-unfolding digit_of
-digit_only b = go (ltb b 48) (leb b 57) (ltb b 97) (leb b 102) refl refl refl refl
-  where
-    no : 16 < 16 → ⊥
-    no h = omega arith
-
-    go :
-        (s t u v : Bool)
-        → ltb b 48 ≡ s
-        → leb b 57 ≡ t
-        → ltb b 97 ≡ u
-        → leb b 102 ≡ v
-        → cond s 16 (cond t (b - 48) (cond u 16 (cond v (b - 97 + 10) 16))) < 16
-        → b ≡ hex_digit_ascii (cond s 16 (cond t (b - 48) (cond u 16 (cond v (b - 97 + 10) 16))))
-    go true t u v p q r w h = absurd (no h)
-    go false true u v p q r w h =
-        let l : 48 ≤ b = ltb-false b 48 p in
-        let m : b ≤ 57 = leb-true b 57 q in
-        rw (lt-ltb (b - 48) 10 (omega arith)) (omega arith)
-    go false false true v p q r w h = absurd (no h)
-    go false false false true p q r w h =
-        let l : 97 ≤ b = ltb-false b 97 r in
-        rw (le-ltb (b - 97 + 10) 10 (omega arith)) (omega arith)
-    go false false false false p q r w h = absurd (no h)
+pub digit_only : (b d : ℕ) → digit_of b ≡ Some d → b ≡ hex_digit_ascii d
+digit_only b d h = let e = digit_cases b d h in grind (arith, nat_tests)
 
 -- ---- the digit at i, in a loop
 module _ (bs : List ℕ) (n i : ℕ) (h : i < length bs) where
-  pub stops : digit_of (get_or bs i 0) ≡ 16 → Not ≡ number_from n (drop i bs)
+  pub stops : digit_of (get_or bs i 0) ≡ None → None ≡ number_from n (drop i bs)
   unfolding number_from
   stops e = rw (drop-cons bs i 0, e)
 
-  pub goes_on : (digit_of (get_or bs i 0) ≡ 16 → ⊥) → number_from (n * 16 + digit_of (get_or bs i 0)) (drop (i + 1) bs) ≡ number_from n (drop i bs)
+  pub goes_on : (d : ℕ) → digit_of (get_or bs i 0) ≡ Some d → number_from (n * 16 + d) (drop (i + 1) bs) ≡ number_from n (drop i bs)
   unfolding number_from
-  goes_on e = rw (drop-cons bs i 0, ne_eqb (digit_of (get_or bs i 0)) 16 e, add-one)
+  goes_on d e = rw (drop-cons bs i 0, e, add-one)
 
 -- ---- the size of a number by its digits
 pub larger : (n d k : ℕ) → n < 16 ^ k → d < 16 → n * 16 + d < 16 ^ (k + 1)
@@ -94,11 +59,9 @@ larger n d k p q = rw (add-one, pow-suc) (go (16 ^ k) p)
     go : (m : ℕ) → n < m → n * 16 + d < m * 16
     go m h = omega arith
 
-pub small : (b : ℕ) → (digit_of b ≡ 16 → ⊥) → digit_of b < 16
-small b e = go (digit_of b) (digit_most b) e
-  where
-    go : (d : ℕ) → d ≤ 16 → (d ≡ 16 → ⊥) → d < 16
-    go d p q = omega arith
+-- a number of fewer than sixteen digits has room for one more
+pub room : (n i : ℕ) → n < 16 ^ i → i < 16 → n < 16 ^ 15
+room n i h l = let most : i ≤ 15 = omega arith in lt_of_lt_of_le h (pow-le-pow_right (lit< tt) most)
 
 -- ---- what is written is read back
 back_from : (k n m : ℕ) (rest : List ℕ) → n < 16 ^ k → number_from m (last_digits 16 k n ++ rest) ≡ number_from (m * 16 ^ k + n) rest
@@ -110,7 +73,7 @@ back_from zero n m rest h = ap (λ (j : ℕ). number_from j rest) (rw pow-zero (
 back_from (suc k) n m rest h =
     rw append_assoc
     (back_from k (n / 16) m (hex_digit_ascii (n % 16) ∷ rest) (shorter (16 ^ k) (rw pow-suc at h))
-    ∙ rw (digit_back (n % 16) (omega arith), ne_eqb (n % 16) 16 (omega arith), pow-suc) (ap (λ (j : ℕ). number_from j rest) (joined (16 ^ k))))
+    ∙ rw (digit_back (n % 16) (omega arith), pow-suc) (ap (λ (j : ℕ). number_from j rest) (joined (16 ^ k))))
   where
     shorter : (p : ℕ) → n < p * 16 → n / 16 < p
     shorter p l = omega arith
@@ -122,11 +85,11 @@ written_length : (k n : ℕ) → length (last_digits 16 k n) ≡ k
 written_length zero n = refl
 written_length (suc k) n = length-append (last_digits 16 k (n / 16)) (hex_digit_ascii (n % 16) ∷ []) ∙ rw (written_length k (n / 16), add-one)
 
-pub reads_back : (k n : ℕ) → k ≤ 16 → n < 16 ^ k → number_of (last_digits 16 k n) ≡ Is n
-unfolding number_of number_from
+pub reads_back : (k n : ℕ) → k ≤ 16 → n < 16 ^ k → number_of (last_digits 16 k n) ≡ Some n
+unfolding number_from
 reads_back k n h l =
     rw (le-ltb 16 (length (last_digits 16 k n)) (rw (written_length k n) h))
-    (ap (number_from 0) (sym (append-nil (last_digits 16 k n))) ∙ back_from k n 0 [] l ∙ ap Is (zero-mul-add (16 ^ k)))
+    (ap (number_from 0) (sym (append-nil (last_digits 16 k n))) ∙ back_from k n 0 [] l ∙ ap Some (zero-mul-add (16 ^ k)))
   where
     zero-mul-add : (p : ℕ) → 0 * p + n ≡ n
     zero-mul-add p = omega arith
@@ -197,5 +160,5 @@ pub written : (n : ℕ) → n < 16 ^ 16 → padded_integral (format_spec 32 0 4 
 written n h = padded_with 16 (digits 16 false n) ∙ padded_out 15 64 n (digits 16 false n) h (omega arith) (looped n)
 
 -- and it is read back
-pub reads_written : (n : ℕ) → n < 2 ^ 64 → number_of (padded_integral (format_spec 32 0 4 16 (2 ^ 64 - 1)) false [] (digits 16 false n)) ≡ Is n
+pub reads_written : (n : ℕ) → n < 2 ^ 64 → number_of (padded_integral (format_spec 32 0 4 16 (2 ^ 64 - 1)) false [] (digits 16 false n)) ≡ Some n
 reads_written n h = ap number_of (written n (omega arith)) ∙ reads_back 16 n (omega arith) (omega arith)

@@ -6,51 +6,29 @@ ghost use Rattle.std.specs.Float.{binary64};
 ghost use Rattle.std.specs.Float.Ieee.{of_bits};
 ghost use Rattle.digits.specs.Digits.{digit_of, number_of};
 
-#[derive(Clone, Copy)]
-pub enum Number {
-    Is(u64),
-    // more than sixteen digits, or a byte that is none
-    Not,
-}
-
-// The value of a digit, or 16 for a byte that is none.
-fn digit(byte: u8) -> u64
+// The value of a digit. The library's to_digit reads capital letters too, and no program writes those.
+fn digit(byte: u8) -> Option<u64>
     ensures { result ≡ digit_of byte }
 {
-    if byte < b'0' {
-        return 16;
+    match byte {
+        b'0'..=b'9' => Some(u64::from(byte - b'0')),
+        b'a'..=b'f' => Some(u64::from(byte - b'a') + 10),
+        _ => None,
     }
-    if byte <= b'9' {
-        return (byte - b'0') as u64;
-    }
-    if byte < b'a' {
-        return 16;
-    }
-    let letter = byte <= b'f';
-    if letter {
-        return (byte - b'a') as u64 + 10;
-    }
-    16
 }
 
-// The number that is written in digits.
-pub fn number_of(digits: &[u8]) -> Number
+// The number that up to sixteen digits write.
+pub fn number_of(digits: &[u8]) -> Option<u64>
     ensures { result ≡ number_of digits.now }
 {
     if digits.len() > 16 {
-        return Number::Not;
+        return None;
     }
     let mut n = 0u64;
-    let mut i = 0;
-    while i < digits.len() {
-        let d = digit(digits[i]);
-        if d == 16 {
-            return Number::Not;
-        }
-        n = n * 16 + d;
-        i += 1;
+    for byte in digits {
+        n = n * 16 + digit(*byte)?;
     }
-    Number::Is(n)
+    Some(n)
 }
 
 // The double that has these bits; every pattern of a NaN is the one NaN.

@@ -95,20 +95,11 @@ fn fallen(z: u64) -> u64
 {
     let mut t = z;
     let mut s: u64 = 0;
-    let mut j: u64 = 0;
-    while j < 8 {
+    for j in 0..8 {
         s += t / (j + 1);
         t = high(t, z);
-        j += 1;
     }
     s
-}
-
-// a - b, and 0 where b is the larger.
-fn monus(a: u64, b: u64) -> u64
-    ensures { result ≡ a - b }
-{
-    if b <= a { a - b } else { 0 }
 }
 
 // n * 2^-48
@@ -143,8 +134,8 @@ pub fn ln(x: f64) -> f64
             let z = 0x1000_0000_0000_0000 - (0x10_0000_0000_0000 + t) * (c / 0x100_0000_0000_0000);
             let s = fallen(z * 16) / 256;
             difference(
-                c % 0x100_0000_0000_0000 + monus(e, 1023) * 49946518145322873,
-                s + monus(1023, e) * 49946518145322873,
+                c % 0x100_0000_0000_0000 + e.saturating_sub(1023) * 49946518145322873,
+                s + 1023u64.saturating_sub(e) * 49946518145322873,
             )
         } else {
             0.0 / 0.0

@@ -1,5 +1,6 @@
 -- The outcome of a pair as a decision list, over its row: 9 for an end that is missing, then a search between the two ends.
-use Rattle.std.specs.Prelude.{ℕ, List, ◌∷◌, Float}
+use Rattle.std.specs.Prelude.{ℕ, List, ◌∷◌, Option, Float}
+use Rattle.common.specs.declared.cause.Cause.TheVariants.{ResultNotFinite}
 use Rattle.search.specs.Decision.{Row, ◌⇒◌, decided}
 use Rattle.search.specs.Search as search
 use Rattle.search.specs.Search.{refused, empty_row, end_rows, ends, run}
@@ -7,7 +8,6 @@ use Rattle.search.specs.declared.bracket.Bracket.{Bracket}
 use Rattle.search.specs.declared.bracket.Outcome.{Outcome}
 use Rattle.r4.specs.Ends.{missing, place}
 use Rattle.pairs.specs.Residual.{row_of, residual}
-use Rattle.r4.specs.declared.ends.End.{End}
 use Rattle.pairs.specs.declared.row.Pair.{Pair}
 use Rattle.pairs.specs.declared.question.Question.{Question}
 
@@ -22,10 +22,10 @@ unfoldable pub between : Question → Float → Float → ℕ → Outcome
 between q low high limit = search.between (row_of q).method (residual q) low high limit
 
 -- ---- between the pair's own ends
-abbrev pub lower_end : Question → End
+abbrev pub lower_end : Question → Option Float
 lower_end q = (row_of q).lower q.fixed
 
-abbrev pub upper_end : Question → End
+abbrev pub upper_end : Question → Option Float
 upper_end q = (row_of q).upper q.fixed
 
 -- the two ends with their residuals
@@ -33,8 +33,8 @@ abbrev pub start : Question → Bracket
 start q = ends (residual q) (place (lower_end q)) (place (upper_end q))
 
 -- 9: the line that has the end refuses
-abbrev pub line_row : End → Row Outcome
-line_row end = missing end ⇒ refused 9
+abbrev pub line_row : Option Float → Row Outcome
+line_row end = missing end ⇒ refused ResultNotFinite
 
 abbrev pub before_steps : Question → List (Row Outcome)
 before_steps q = line_row (lower_end q) ∷ (line_row (upper_end q) ∷ (empty_row (start q).x1 (start q).x2 ∷ end_rows (start q)))

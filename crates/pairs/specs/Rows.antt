@@ -1,6 +1,6 @@
 -- The eight pairs of document 01 and the three of region 5 (document 02, §2), one row each: its region, the range of the input that is fixed (of pressures or of temperatures), whether the target is a volume, "Brackets" (the lower and the upper
 -- end, from the fixed input), the formula that is found, and the search with its narrow rule, of Tv2 the one of document 02, §4. The Rust has them as pv2T_reg1, Tv2p_reg1, Th2p_reg1, Ts2p_reg1 pv2T_reg2 to Ts2p_reg2, and Tv2p_reg5 to Ts2p_reg5.
-use Rattle.std.specs.Prelude.{Bool, true, false, Float}
+use Rattle.std.specs.Prelude.{Bool, true, false, Option, Float}
 use Rattle.common.specs.Constant.{T_least, T_1073, p_least, p_50, p_most}
 use Rattle.common.specs.declared.boundaries.Range.{Range}
 use Rattle.common.specs.declared.boundaries.Range.TheVariants.{T1, P1, T2, P2, T5}
@@ -11,7 +11,6 @@ use Rattle.search.specs.declared.bisection.Width.TheVariants.{Millionth, Million
 use Rattle.search.specs.declared.method.Method.{Method}
 use Rattle.search.specs.declared.method.Method.TheVariants.{ByBisection, ByBrent}
 use Rattle.r4.specs.Ends.{always, p_lowest_1, T_most_1, T_least_2, p_most_2}
-use Rattle.r4.specs.declared.ends.End.{End}
 use Rattle.pairs.specs.declared.row.Region.{Region}
 use Rattle.pairs.specs.declared.row.Region.TheVariants.{One, Two, Five}
 use Rattle.pairs.specs.declared.row.Pair.{Pair}
@@ -21,8 +20,8 @@ pub record PairRow : Type 0 where
   pub region : Region
   pub range : Range
   pub volume : Bool
-  pub lower : Float → End
-  pub upper : Float → End
+  pub lower : Float → Option Float
+  pub upper : Float → Option Float
   pub formula : Float → Float → Float
   pub method : Method
 

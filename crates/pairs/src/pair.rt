@@ -5,17 +5,17 @@ ghost use Rattle.pairs.specs.Pairs.{asks, steps as steps_of, between as between_
 use crate::question::Question;
 use crate::root::{bisection, zbrent};
 use crate::row::Pair;
-use r4::ends::End;
-use search::bracket::{Bracket, Opening, Outcome, refused};
+use common::cause::Cause;
+use search::bracket::{Bracket, Outcome, refused};
 use search::method::Method;
+use std::ops::ControlFlow;
 
 // The search of the pair, from a bracket.
+#[tactic(auto, unfolding(crate::specs::Pairs::steps, search::specs::Search::run))]
 fn steps(question: Question, start: Bracket, limit: u32) -> Outcome
     ensures { result ≡ steps_of question start limit }
 {
-    let pair = question.pair;
-    let method = pair.method();
-    match method {
+    match question.pair.method() {
         Method::ByBisection(rule) => bisection(question, rule, start, limit),
         Method::ByBrent => zbrent(question, start, limit),
     }
@@ -34,13 +34,13 @@ pub fn between(question: Question, low: f64, high: f64, limit: u32) -> Outcome
             r1,
             r2,
         };
-        let opening = start.opened();
-        return match opening {
-            Opening::Closed(o) => o,
-            Opening::Open(b) => steps(question, b, limit),
-        };
+        match start.opened() {
+            ControlFlow::Break(o) => o,
+            ControlFlow::Continue(b) => steps(question, b, limit),
+        }
+    } else {
+        refused(Cause::EndsMeet)
     }
-    refused(5)
 }
 
 // The outcome of a pair, whatever its inputs: an end that is missing is 9.
@@ -48,12 +48,12 @@ pub fn pair(named: Pair, fixed: f64, target: f64, limit: u32) -> Outcome
     ensures { result ≡ pair_of (asks named fixed target) limit }
 {
     let lower = named.lower_end(fixed);
-    let End::At(low) = lower else {
-        return refused(9);
+    let Some(low) = lower else {
+        return refused(Cause::ResultNotFinite);
     };
     let upper = named.upper_end(fixed);
-    let End::At(high) = upper else {
-        return refused(9);
+    let Some(high) = upper else {
+        return refused(Cause::ResultNotFinite);
     };
     let question = Question {
         pair: named,

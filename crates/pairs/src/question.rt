@@ -3,7 +3,6 @@ ghost use Rattle.std.specs.Prelude.{◌≡◌};
 ghost use Rattle.pairs.specs.Residual.{state_of, residual as residual_of};
 
 use crate::row::Pair;
-use common::boundaries::of_pressures;
 use search::method::Method;
 
 #[derive(Clone, Copy)]
@@ -24,8 +23,7 @@ impl Question {
     pub fn state(self, x: f64) -> State
         ensures { result ≡ state_of self x }
     {
-        let pair = self.pair;
-        if of_pressures(pair.range()) {
+        if self.pair.range().of_pressures() {
             return State {
                 p: self.fixed,
                 T: x,

@@ -1,22 +1,49 @@
 // A pair is a row: the named choice, in place of the Rust's closures and IF97_EQ, and what document 01 says of each, attribute by attribute.
-ghost use Rattle.std.specs.Prelude.{◌≡◌};
+ghost use Rattle.std.specs.Prelude.{◌≡◌, ok_or};
+ghost use Rattle.common.specs.declared.cause.Cause.TheVariants.{NamesNothing};
+ghost use Rattle.pairs.specs.Names.{number_of, region_named};
 ghost use Rattle.pairs.specs.Rows.{row};
 
 use common::boundaries::Range;
+use common::cause::Cause;
 use common::constant::{P_MAX, P_MAX5, P_MIN2, T_MAX2, T_MIN};
 use r1::region1_pT::{pT2h_reg1, pT2s_reg1, pT2v_reg1};
 use r2::region2_pT::{pT2h_reg2, pT2s_reg2, pT2v_reg2};
-use r4::ends::{End, T2pmax_reg2, T2pmin_reg1, p2Tmax_reg1, p2Tmin_reg2};
+use r4::ends::{T2pmax_reg2, T2pmin_reg1, p2Tmax_reg1, p2Tmin_reg2};
 use r5::region5_pT::{pT2h_reg5, pT2s_reg5, pT2v_reg5};
 use search::bisection::Width;
 use search::method::Method;
 
-// The region, always named by the caller.
+// The region, always named by the caller. Each has its own number.
 #[derive(Clone, Copy)]
 pub enum Region {
-    One,
-    Two,
-    Five,
+    One = 1,
+    Two = 2,
+    Five = 5,
+}
+
+impl Region {
+    pub fn number(self) -> u32
+        ensures { result ≡ number_of self }
+    {
+        self as u32
+    }
+}
+
+impl TryFrom<u32> for Region {
+    type Error = Cause;
+
+    ghost try_from_gives = { λ number r. r ≡ ok_or (region_named number) NamesNothing };
+
+    #[tactic(auto, unfolding(crate::specs::Names::region_named))]
+    fn try_from(number: u32) -> Result<Self, Cause> {
+        match number {
+            1 => Ok(Region::One),
+            2 => Ok(Region::Two),
+            5 => Ok(Region::Five),
+            _ => Err(Cause::NamesNothing),
+        }
+    }
 }
 
 // Each is named after its inputs and its region: Pv1 is the Rust's pv2T_reg1, Ts2 its Ts2p_reg2. Region 5 has no (p,v).
@@ -92,28 +119,26 @@ impl Pair {
         }
     }
 
-    pub fn lower_end(self, fixed: f64) -> End
+    pub fn lower_end(self, fixed: f64) -> Option<f64>
         ensures { result ≡ (row self).lower fixed }
     {
         match self {
-            Pair::Pv1 => End::At(T_MIN),
+            Pair::Pv1 => Some(T_MIN),
             Pair::Tv1 | Pair::Th1 | Pair::Ts1 => T2pmin_reg1(fixed),
             Pair::Pv2 => p2Tmin_reg2(fixed),
-            Pair::Tv2 | Pair::Th2 | Pair::Ts2 | Pair::Tv5 | Pair::Th5 | Pair::Ts5 => End::At(
-                P_MIN2,
-            ),
+            Pair::Tv2 | Pair::Th2 | Pair::Ts2 | Pair::Tv5 | Pair::Th5 | Pair::Ts5 => Some(P_MIN2),
         }
     }
 
-    pub fn upper_end(self, fixed: f64) -> End
+    pub fn upper_end(self, fixed: f64) -> Option<f64>
         ensures { result ≡ (row self).upper fixed }
     {
         match self {
             Pair::Pv1 => p2Tmax_reg1(fixed),
-            Pair::Tv1 | Pair::Th1 | Pair::Ts1 | Pair::Tv2 | Pair::Th2 => End::At(P_MAX),
-            Pair::Pv2 => End::At(T_MAX2),
+            Pair::Tv1 | Pair::Th1 | Pair::Ts1 | Pair::Tv2 | Pair::Th2 => Some(P_MAX),
+            Pair::Pv2 => Some(T_MAX2),
             Pair::Ts2 => T2pmax_reg2(fixed),
-            Pair::Tv5 | Pair::Th5 | Pair::Ts5 => End::At(P_MAX5),
+            Pair::Tv5 | Pair::Th5 | Pair::Ts5 => Some(P_MAX5),
         }
     }
 

@@ -1,15 +1,13 @@
 -- Each component of the state that the one loop makes is its own sum, of every kind. Assumes nothing.
-use Prim.Native.Nat.{ℕ, zero, suc, ◌≤◌}
 use mathlib.Core.Path.{◌≡◌, refl, sym, ◌∙◌, ap}
 use mathlib.Core.List.{List, [], ◌∷◌}
-use native.Mathlib.Omega.{arith}
 use lib.Ieee.{Float}
-use Rattle.exact.specs.Operations.{◌⊕◌}
+use Rattle.exact.specs.Operations.{◌⊕◌, ◌⊗◌, ◌⊘◌}
 use Rattle.polynomial.specs.Terms.{Row, total, total_from, term, alone, alone_j, items, items_i, items_j, items_ii, items_ij, items_jj, shared_0, shared_i, shared_j, shared_ii, shared_ij, shared_jj}
 use Rattle.polynomial.specs.Sums.{step, over, none, shared}
-use Rattle.polynomial.specs.Kinds.{only_0_j, only_i_j, only_i_ii_ij_jj, divided, of_shared, step_of, term_of, kind_poly_ij, kind_polys_0_j, kind_polys_i_j, kind_polys_i_ii_ij_jj}
+use Rattle.polynomial.specs.Kinds.{only_0_j, only_i_j, only_i_ii_ij_jj, divided, of_shared, OnlyLaws, laws_0_j, laws_i_j, laws_i_ii_ij_jj}
 use Rattle.polynomial.specs.declared.Order.{Order}
-use Rattle.polynomial.specs.declared.Order.TheVariants.{Not, Once, Twice}
+use Rattle.polynomial.specs.declared.Order.TheVariants.{Not}
 use Rattle.polynomial.specs.declared.Sums.{Sums}
 use Rattle.polynomial.specs.declared.Kind.TheVariants.{Direct, Shared, Alone, AloneShared}
 
@@ -46,38 +44,31 @@ module _ (vi vj : Float) (rs : List Row) where
       )
 
   -- ---- those that a property reads: the others, which are 0 all the way, change nothing of them
-  kept : (only : Sums → Sums) → ((s : Sums) (r : Row) → only (step Shared vi vj s r) ≡ only (step Shared vi vj (only s) r)) → (s : Sums) (ts : List Row) → only (over (step Shared vi vj) s ts) ≡ over (λ x r. only (step Shared vi vj x r)) (only s) ts
-  unfolding over
-  kept only h s [] = refl
-  kept only h s (r ∷ ts) = kept only h (step Shared vi vj s r) ts ∙ ap (λ (x : Sums). over (λ x r. only (step Shared vi vj x r)) x ts) (h s r)
+  module _ (only : Sums → Sums) (laws : OnlyLaws only) where
+    kept : (s : Sums) (ts : List Row) → only (over (step Shared vi vj) s ts) ≡ over (of_shared only vi vj) (only s) ts
+    unfolding over
+    kept s [] = refl
+    kept s (r ∷ ts) =
+        kept (step Shared vi vj s r) ts
+        ∙ ap (λ (x : Sums). over (of_shared only vi vj) x ts)
+        (sym (laws.of_each (λ x. x ⊕ items vi vj r) (λ x. x ⊕ items_i vi vj r) (λ x. x ⊕ items_j vi vj r) (λ x. x ⊕ items_ii vi vj r) (λ x. x ⊕ items_ij vi vj r) (λ x. x ⊕ items_jj vi vj r) s))
 
-  read : (only : Sums → Sums) → ((s : Sums) (r : Row) → only (step Shared vi vj s r) ≡ only (step Shared vi vj (only s) r)) → ((s : Sums) → only (divided vi vj (only s)) ≡ only (divided vi vj s)) → only none ≡ none
-      → only (divided vi vj (over (of_shared only vi vj) none rs)) ≡ only (shared vi vj rs)
-  read only h d e =
-      ap (λ (x : Sums). only (divided vi vj (over (of_shared only vi vj) x rs))) (sym e)
-      ∙ ap (λ (x : Sums). only (divided vi vj x)) (sym (kept only h none rs))
-      ∙ d (over (step Shared vi vj) none rs)
-      ∙ ap only shared_sums
+    pub sums_only : only (divided vi vj (over (of_shared only vi vj) none rs)) ≡ only (shared vi vj rs)
+    sums_only =
+        ap (λ (x : Sums). only (divided vi vj (over (of_shared only vi vj) x rs))) (sym laws.of_none)
+        ∙ ap (λ (x : Sums). only (divided vi vj x)) (sym (kept none rs))
+        ∙ laws.of_each (λ x. x) (λ x. x ⊘ vi) (λ x. x ⊘ vj) (λ x. x ⊘ (vi ⊗ vi)) (λ x. x ⊘ (vi ⊗ vj)) (λ x. x ⊘ (vj ⊗ vj)) (over (step Shared vi vj) none rs)
+        ∙ ap only shared_sums
 
-  pub sums_0_j : only_0_j (divided vi vj (over (step_of kind_polys_0_j vi vj) none rs)) ≡ only_0_j (shared vi vj rs)
-  unfolding step_of
-  sums_0_j = read only_0_j (λ s r. refl) (λ s. refl) refl
+  pub sums_0_j : only_0_j (divided vi vj (over (of_shared only_0_j vi vj) none rs)) ≡ only_0_j (shared vi vj rs)
+  sums_0_j = sums_only only_0_j laws_0_j
 
-  pub sums_i_j : only_i_j (divided vi vj (over (step_of kind_polys_i_j vi vj) none rs)) ≡ only_i_j (shared vi vj rs)
-  unfolding step_of
-  sums_i_j = read only_i_j (λ s r. refl) (λ s. refl) refl
+  pub sums_i_j : only_i_j (divided vi vj (over (of_shared only_i_j vi vj) none rs)) ≡ only_i_j (shared vi vj rs)
+  sums_i_j = sums_only only_i_j laws_i_j
 
-  pub sums_i_ii_ij_jj : only_i_ii_ij_jj (divided vi vj (over (step_of kind_polys_i_ii_ij_jj vi vj) none rs)) ≡ only_i_ii_ij_jj (shared vi vj rs)
-  unfolding step_of
-  sums_i_ii_ij_jj = read only_i_ii_ij_jj (λ s r. refl) (λ s. refl) refl
+  pub sums_i_ii_ij_jj : only_i_ii_ij_jj (divided vi vj (over (of_shared only_i_ii_ij_jj vi vj) none rs)) ≡ only_i_ii_ij_jj (shared vi vj rs)
+  sums_i_ii_ij_jj = sums_only only_i_ii_ij_jj laws_i_ii_ij_jj
 
-  -- ---- the kinds up to kind_poly_ij
-  pub direct_sums : (kind : ℕ) → kind ≤ kind_poly_ij → (over (step_of kind vi vj) none rs).zero ≡ total (term_of kind vi vj) rs
-  unfolding step_of
-  direct_sums zero h = direct_sum vi vj none rs Not Not
-  direct_sums (suc zero) h = direct_sum vi vj none rs Once Not
-  direct_sums (suc (suc zero)) h = direct_sum vi vj none rs Twice Not
-  direct_sums (suc (suc (suc zero))) h = direct_sum vi vj none rs Not Once
-  direct_sums (suc (suc (suc (suc zero)))) h = direct_sum vi vj none rs Not Twice
-  direct_sums (suc (suc (suc (suc (suc zero))))) h = direct_sum vi vj none rs Once Once
-  direct_sums (suc (suc (suc (suc (suc (suc kind)))))) h = absurd (omega arith)
+  -- ---- the sums of one derivative each
+  pub direct_sums : (di dj : Order) → (over (step (Direct di dj) vi vj) none rs).zero ≡ total (term di dj vi vj) rs
+  direct_sums di dj = direct_sum vi vj none rs di dj

@@ -1,9 +1,8 @@
 -- Laws of a table and of what is folded over it: its next row, its end, its parts, and the sum over its tiles. Assumes nothing.
 use Prim.Native.Nat.{ℕ, zero, suc, ◌+◌, ◌-◌, ◌≤◌, ◌<◌, min}
-use mathlib.Core.Path.{◌≡◌, ◌∙◌, refl, ap, sym}
+use mathlib.Core.Path.{◌≡◌, ◌∙◌, refl, ap, sym, subst}
 use mathlib.Core.List.{List, [], ◌∷◌, map, foldl-append}
 use native.Mathlib.Numerals.{add-one}
-use native.Mathlib.Nat.{le_trans}
 use native.Mathlib.Omega.{arith}
 use lib.Dec.{T}
 use lib.IntN.{ℤ, pos}
@@ -11,9 +10,13 @@ use lib.Ieee.{Float, nan}
 use lib.Ieee.Fits.{and_i, and_l, and_r}
 use lib.ListN.{length, get_or, take, drop, drop_of_length-le, length-take, length-drop}
 use lib.Seq.{drop-cons, take-add, take_all}
+use mir.Syntax.{w32}
+use mir.Val.{to_z, of_z}
+use mir.Facts.{to_z-of_z}
 use Rattle.polynomial.specs.Terms.{Row, row}
 use Rattle.polynomial.specs.Sums.{over}
 use Rattle.polynomial.specs.Tables.{rows, part, in_range, all_in_range, Columns}
+use Rattle.polynomial.proofs.Exponents.{in_range_fits}
 
 -- ---- the columns of a table
 
@@ -95,6 +98,14 @@ rows-length (i ∷ is) [] ns = omega arith
 rows-length (i ∷ is) (j ∷ js) [] = omega arith
 rows-length (i ∷ is) (j ∷ js) (n ∷ ns) = let h = rows-length is js ns in omega arith
 
+-- a table is as long as its columns
+pub rows-as_long : (is js : List ℤ) (ns : List Float) → length js ≡ length is → length ns ≡ length is → length (rows is js ns) ≡ length is
+unfolding rows
+rows-as_long [] js ns j n = refl
+rows-as_long (i ∷ is) [] ns j n = absurd (omega arith)
+rows-as_long (i ∷ is) (j ∷ js) [] e n = absurd (omega arith)
+rows-as_long (i ∷ is) (j ∷ js) (n ∷ ns) e m = let h = rows-as_long is js ns (omega arith) (omega arith) in omega arith
+
 -- ---- the columns of a table, put together again
 
 abbrev pub first : Row → ℤ
@@ -145,6 +156,14 @@ range_at [] i d h a = absurd (omega arith)
 range_at (k ∷ ks) zero d h a = and_l (in_range k) (all_in_range ks) a
 range_at (k ∷ ks) (suc i) d h a = range_at ks i d (omega arith) (and_r (in_range k) (all_in_range ks) a)
 
+-- an entry, read back from its bits
+module _ (ks : List ℤ) (i : ℕ) (d : ℤ) (h : i < length ks) (a : T (all_in_range ks)) where
+  pub read_at : to_z w32 (of_z w32 (get_or ks i d)) ≡ get_or ks i d
+  read_at = to_z-of_z (in_range_fits (get_or ks i d) (range_at ks i d h a))
+
+  pub range_at_back : T (in_range (to_z w32 (of_z w32 (get_or ks i d))))
+  range_at_back = subst (λ (z : ℤ). T (in_range z)) (sym read_at) (range_at ks i d h a)
+
 range-drop : (n : ℕ) (ks : List ℤ) → T (all_in_range ks) → T (all_in_range (drop n ks))
 unfolding all_in_range
 range-drop zero ks a = a
@@ -174,30 +193,42 @@ columns-part a e is js ns c =
       as_long_n = part_length a e ns is c.as_long_n;
     }
 
--- ---- one level of tiles, of whatever size: the loop that hands on the columns from a up to its next cut
+-- what ends within the table ends within its columns
+pub record Within (e : ℕ) (is js : List ℤ) (ns : List Float) : Type 0 where
+  pub in_i : e ≤ length is
+  pub in_j : e ≤ length js
+  pub in_n : e ≤ length ns
 
--- the next cut rises, and lies within each column
-pub record Cut (a e i j n : ℕ) : Type 0 where
+pub within_columns : {e : ℕ} {is js : List ℤ} {ns : List Float} {rs : List Row} → Columns is js ns → rows is js ns ≡ rs → e ≤ length rs → Within e is js ns
+within_columns {e} {is} {js} {ns} c v h =
+    let l = rows-as_long is js ns c.as_long_j c.as_long_n in
+    let m : e ≤ length is = omega (arith, ap length v) in
+    let j = c.as_long_j in
+    let n = c.as_long_n in
+    record { in_i = m; in_j = omega arith; in_n = omega arith }
+
+-- ---- one level of tiles, of whatever size: the loop that hands on the rows from a up to its next cut
+
+-- the next cut rises, and lies within the table
+pub record Cut (a e n : ℕ) : Type 0 where
   pub rises : a < e
-  pub in_i : e ≤ i
-  pub in_j : e ≤ j
-  pub in_n : e ≤ n
+  pub within : e ≤ n
 
-pub cut_within : {a e size : ℕ} {is js : List ℤ} {ns : List Float} → 0 < size → a < length is → e ≡ min (a + size) (length is) → Columns is js ns → Cut a e (length is) (length js) (length ns)
-cut_within p h l c = let j = c.as_long_j in let n = c.as_long_n in record { rises = omega arith; in_i = omega arith; in_j = omega arith; in_n = omega arith }
+pub cut_within : {a e size n : ℕ} → 0 < size → a < n → e ≡ min (a + size) n → Cut a e n
+cut_within p h l = record { rises = omega arith; within = omega arith }
 
-module _ {S : Type 0} (f : S → Row → S) (s : S) (is js : List ℤ) (ns : List Float) where
+module _ {S : Type 0} (f : S → Row → S) (s : S) (rs : List Row) where
   pub record Summed (x : S) (a : ℕ) : Type 0 where
-    pub within : a ≤ length is
-    pub upto : Upto f s (rows is js ns) x a
+    pub within : a ≤ length rs
+    pub upto : Upto f s rs x a
 
   pub summed_none : Summed s 0
-  summed_none = record { within = omega arith; upto = upto_none f s (rows is js ns) }
+  summed_none = record { within = omega arith; upto = upto_none f s rs }
 
-  pub summed_next : {x y : S} {a e : ℕ} → Summed x a → Cut a e (length is) (length js) (length ns) → y ≡ over f x (rows (part a e is) (part a e js) (part a e ns)) → Summed y e
+  pub summed_next : {x y : S} {a e : ℕ} → Summed x a → Cut a e (length rs) → y ≡ over f x (part a e rs) → Summed y e
   summed_next {x} {y} {a} {e} v c q =
       let h = c.rises in
-      record { within = c.in_i; upto = upto_next f s (rows is js ns) a e (omega arith) v.upto (q ∙ ap (over f x) (rows-part a e is js ns)) }
+      record { within = c.within; upto = upto_next f s rs a e (omega arith) v.upto q }
 
-  pub summed_all : {x : S} {a : ℕ} → Summed x a → length is ≤ a → x ≡ over f s (rows is js ns)
-  summed_all {x} {a} v h = upto_all f s (rows is js ns) a (le_trans (rows-length is js ns) h) v.upto
+  pub summed_all : {x : S} {a : ℕ} → Summed x a → length rs ≤ a → x ≡ over f s rs
+  summed_all {x} {a} v h = upto_all f s rs a h v.upto

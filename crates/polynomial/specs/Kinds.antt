@@ -1,13 +1,11 @@
--- What the one loop adds for a row, by the number that it is told (POLY and so on in the code): a step of specs/Sums.antt, or of the shared sums those that a property reads.
-use Rattle.std.specs.Prelude.{ℕ, List, [], ◌∷◌, ◌++◌, map, get_or, Float}
+-- Of the shared sums those that a property reads, what a row adds to them, and each divided by what its derivative takes off the powers.
+use Rattle.std.specs.Prelude.{◌≡◌, refl, Float}
 use Rattle.exact.specs.Operations.{◌⊗◌, ◌⊘◌}
 use Rattle.float.specs.Sign.{nought}
-use Rattle.polynomial.specs.Terms.{Row, term}
-use Rattle.polynomial.specs.Sums.{step}
-use Rattle.polynomial.specs.declared.Order.{Order}
-use Rattle.polynomial.specs.declared.Order.TheVariants.{Not, Once, Twice}
+use Rattle.polynomial.specs.Terms.{Row}
+use Rattle.polynomial.specs.Sums.{step, none}
 use Rattle.polynomial.specs.declared.Sums.{Sums}
-use Rattle.polynomial.specs.declared.Kind.TheVariants.{Direct, Shared, Alone, AloneShared}
+use Rattle.polynomial.specs.declared.Kind.TheVariants.{Shared}
 
 -- ---- of the shared sums, those that the Rust's polys_0_j, polys_i_j and polys_i_ii_ij_jj give; the others are 0
 abbrev pub only_0_j : Sums → Sums
@@ -19,47 +17,30 @@ only_i_j s = record { zero = nought; i = s.i; j = s.j; ii = nought; ij = nought;
 abbrev pub only_i_ii_ij_jj : Sums → Sums
 only_i_ii_ij_jj s = record { zero = nought; i = s.i; j = nought; ii = s.ii; ij = s.ij; jj = s.jj }
 
--- each divided once by what its derivative takes off the powers
-abbrev pub divided : Float → Float → Sums → Sums
-divided vi vj s = record { zero = s.zero; i = s.i ⊘ vi; j = s.j ⊘ vj; ii = s.ii ⊘ (vi ⊗ vi); ij = s.ij ⊘ (vi ⊗ vj); jj = s.jj ⊘ (vj ⊗ vj) }
-
--- ---- the kinds: a kind's number is its place in `kinds`, and has a name in the code; those that a statement cites have it here too
--- how often the power of vi and that of vj are derived: 0 POLY, 1 POLY_I, 2 POLY_II, 3 POLY_J, 4 POLY_JJ, 5 POLY_IJ
-abbrev pub derived : List (Order × Order)
-derived = (Not, Not) ∷ ((Once, Not) ∷ ((Twice, Not) ∷ ((Not, Once) ∷ ((Not, Twice) ∷ ((Once, Once) ∷ [])))))
-
 abbrev pub Step : Type 0
 Step = Float → Float → Sums → Row → Sums
 
 abbrev pub of_shared : (Sums → Sums) → Step
 of_shared only vi vj s r = only (step Shared vi vj s r)
 
--- 6 POLYS_0_J, 7 POLYS_I_J, 8 POLYS_I_II_IJ_JJ, 9 ALONE_ONCE, 10 ALONE_TWICE, 11 ALONE_SHARED
-abbrev pub others : List Step
-others = of_shared only_0_j ∷ (of_shared only_i_j ∷ (of_shared only_i_ii_ij_jj ∷ (step (Alone Once) ∷ (step (Alone Twice) ∷ (step AloneShared ∷ [])))))
+-- each divided once by what its derivative takes off the powers
+abbrev pub divided : Float → Float → Sums → Sums
+divided vi vj s = record { zero = s.zero; i = s.i ⊘ vi; j = s.j ⊘ vj; ii = s.ii ⊘ (vi ⊗ vi); ij = s.ij ⊘ (vi ⊗ vj); jj = s.jj ⊘ (vj ⊗ vj) }
 
-abbrev pub kind_poly_ij : ℕ
-kind_poly_ij = 5
+-- ---- what is not read turns nothing of what is
+-- each component by a function of its own
+abbrev pub each : (f-0 f-i f-j f-ii f-ij f-jj : Float → Float) → Sums → Sums
+each f-0 f-i f-j f-ii f-ij f-jj s = record { zero = f-0 s.zero; i = f-i s.i; j = f-j s.j; ii = f-ii s.ii; ij = f-ij s.ij; jj = f-jj s.jj }
 
-abbrev pub kind_polys_0_j : ℕ
-kind_polys_0_j = 6
+pub record OnlyLaws (only : Sums → Sums) : Type 0 where
+  pub of_each : (f-0 f-i f-j f-ii f-ij f-jj : Float → Float) (s : Sums) → only (each f-0 f-i f-j f-ii f-ij f-jj (only s)) ≡ only (each f-0 f-i f-j f-ii f-ij f-jj s)
+  pub of_none : only none ≡ none
 
-abbrev pub kind_polys_i_j : ℕ
-kind_polys_i_j = 7
+pub laws_0_j : OnlyLaws only_0_j
+laws_0_j = record { of_each = λ f-0 f-i f-j f-ii f-ij f-jj s. refl; of_none = refl }
 
-abbrev pub kind_polys_i_ii_ij_jj : ℕ
-kind_polys_i_ii_ij_jj = 8
+pub laws_i_j : OnlyLaws only_i_j
+laws_i_j = record { of_each = λ f-0 f-i f-j f-ii f-ij f-jj s. refl; of_none = refl }
 
-abbrev pub kinds : List Step
-kinds = map (λ (o : Order × Order). step (Direct o.0 o.1)) derived ++ others
-
-abbrev pub nothing : Step
-nothing vi vj s r = s
-
--- what a row adds; a number that names no kind adds nothing
-unfoldable pub step_of : ℕ → Step
-step_of kind = get_or kinds kind nothing
-
--- the terms of the kinds up to kind_poly_ij
-abbrev pub term_of : ℕ → Float → Float → Row → Float
-term_of kind = term (get_or derived kind (Not, Not)).0 (get_or derived kind (Not, Not)).1
+pub laws_i_ii_ij_jj : OnlyLaws only_i_ii_ij_jj
+laws_i_ii_ij_jj = record { of_each = λ f-0 f-i f-j f-ii f-ij f-jj s. refl; of_none = refl }

@@ -12,6 +12,10 @@ use Rattle.polynomial.specs.declared.Kind.TheVariants.{Direct, Shared, Alone, Al
 abbrev pub none : Sums
 none = record { zero = nought; i = nought; j = nought; ii = nought; ij = nought; jj = nought }
 
+-- the same, but the first component goes on from `start`
+abbrev pub from : Float → Sums
+from start = record { zero = start; i = nought; j = nought; ii = nought; ij = nought; jj = nought }
+
 -- the first component with one more term, the others as they are
 abbrev pub first : Float → Sums → Sums
 first x s = record { zero = s.zero ⊕ x; i = s.i; j = s.j; ii = s.ii; ij = s.ij; jj = s.jj }

@@ -1,13 +1,13 @@
 // The dimensionless Gibbs free energy of region 1: its table and its derivatives.
 ghost use Rattle.std.specs.Prelude.{◌≡◌};
-ghost use Rattle.r1.specs.Region1.{gamma_pi, gamma_tau, gamma_tautau, derivatives, turned as turned_of};
+ghost use Rattle.r1.specs.Region1.{vi, vj, terms as terms_of, gamma_pi, gamma_tau, gamma_tautau, derivatives, turned as turned_of};
+ghost use Rattle.polynomial.specs.Terms.{term, total};
 ghost use Rattle.polynomial.specs.Kinds.{only_0_j, only_i_j, only_i_ii_ij_jj};
 
-use polynomial::powers::powers;
-use polynomial::{
-    POLYS_0_J, POLYS_I_II_IJ_JJ, POLYS_I_J, Sums, divided, none, only_0_j, only_i_ii_ij_jj,
-    only_i_j, poly_i_powi_steps, poly_j_powi_steps, poly_jj_powi_steps, tiles,
-};
+use polynomial::powers::Powers;
+use polynomial::steps::{Derived, IIiIjJj, IJ, Not, Once, Read, Shared, Twice, ZeroJ};
+use polynomial::table::Table;
+use polynomial::{Sums, divided, none, poly_powi_steps, tiles};
 
 // Table 2 of the release, by columns.
 const I: [i32; 34] = [
@@ -57,37 +57,43 @@ const N: [f64; 34] = [
     -0.93537087292458e-25,
 ];
 
+// The same as a table.
+fn terms() -> Table<'static>
+    ensures { result ≡ terms_of }
+{
+    Table {
+        is: &I,
+        js: &J,
+        ns: &N,
+    }
+}
+
+// The sum of the terms derived in 7.1 - pi as `Pi` says and in tau - 1.222 as `Tau` does.
+fn derived<Pi: Derived, Tau: Derived>(pi: f64, tau: f64) -> f64
+    ensures { result ≡ total (term Pi.order Tau.order (vi pi) (vj tau)) terms_of }
+{
+    poly_powi_steps::<Pi, Tau>(&Powers::of(7.1 - pi), &Powers::of(tau - 1.222), &terms())
+}
+
 // The first derivative in pi.
 pub fn gamma_pi_reg1(pi: f64, tau: f64) -> f64
     ensures { result ≡ gamma_pi pi tau }
 {
-    let vi = 7.1 - pi;
-    let vj = tau - 1.222;
-    let xs = powers(vi);
-    let ys = powers(vj);
-    -poly_i_powi_steps(vi, vj, &xs, &ys, &I, &J, &N)
+    -derived::<Once, Not>(pi, tau)
 }
 
 // The first derivative in tau.
 pub fn gamma_tau_reg1(pi: f64, tau: f64) -> f64
     ensures { result ≡ gamma_tau pi tau }
 {
-    let vi = 7.1 - pi;
-    let vj = tau - 1.222;
-    let xs = powers(vi);
-    let ys = powers(vj);
-    poly_j_powi_steps(vi, vj, &xs, &ys, &I, &J, &N)
+    derived::<Not, Once>(pi, tau)
 }
 
 // The second derivative in tau.
 pub fn gamma_tautau_reg1(pi: f64, tau: f64) -> f64
     ensures { result ≡ gamma_tautau pi tau }
 {
-    let vi = 7.1 - pi;
-    let vj = tau - 1.222;
-    let xs = powers(vi);
-    let ys = powers(vj);
-    poly_jj_powi_steps(vi, vj, &xs, &ys, &I, &J, &N)
+    derived::<Not, Twice>(pi, tau)
 }
 
 // As derivatives in pi, which is taken from 7.1: those of odd order change sign.
@@ -104,38 +110,33 @@ fn turned(s: Sums) -> Sums
     }
 }
 
+// The derivatives that share their powers, those that are read.
+fn shared<R: Read>(pi: f64, tau: f64) -> Sums
+    ensures { result ≡ R.only (derivatives pi tau) }
+{
+    let vi = Powers::of(7.1 - pi);
+    let vj = Powers::of(tau - 1.222);
+    let s = tiles::<Shared<R>>(none(), &vi, &vj, &terms());
+    R::only(turned(divided(s, vi.base(), vj.base())))
+}
+
 // The energy itself and its derivative in tau, which share their powers.
 pub fn polys_0_j_powi_reg1(pi: f64, tau: f64) -> Sums
     ensures { result ≡ only_0_j (derivatives pi tau) }
 {
-    let vi = 7.1 - pi;
-    let vj = tau - 1.222;
-    let xs = powers(vi);
-    let ys = powers(vj);
-    let s = tiles(POLYS_0_J, none(), vi, vj, &xs, &ys, &I, &J, &N);
-    only_0_j(divided(s, vi, vj))
+    shared::<ZeroJ>(pi, tau)
 }
 
 // The first derivatives in pi and in tau, which share their powers.
 pub fn polys_i_j_powi_reg1(pi: f64, tau: f64) -> Sums
     ensures { result ≡ only_i_j (derivatives pi tau) }
 {
-    let vi = 7.1 - pi;
-    let vj = tau - 1.222;
-    let xs = powers(vi);
-    let ys = powers(vj);
-    let s = tiles(POLYS_I_J, none(), vi, vj, &xs, &ys, &I, &J, &N);
-    only_i_j(turned(divided(s, vi, vj)))
+    shared::<IJ>(pi, tau)
 }
 
 // The derivatives in pi, twice in pi, in both and twice in tau, which share their powers.
 pub fn polys_i_ii_ij_jj_powi_reg1(pi: f64, tau: f64) -> Sums
     ensures { result ≡ only_i_ii_ij_jj (derivatives pi tau) }
 {
-    let vi = 7.1 - pi;
-    let vj = tau - 1.222;
-    let xs = powers(vi);
-    let ys = powers(vj);
-    let s = tiles(POLYS_I_II_IJ_JJ, none(), vi, vj, &xs, &ys, &I, &J, &N);
-    only_i_ii_ij_jj(turned(divided(s, vi, vj)))
+    shared::<IIiIjJj>(pi, tau)
 }

@@ -2,15 +2,16 @@
 ghost use Rattle.std.specs.Prelude.{◌≡◌};
 ghost use Rattle.gibbs.specs.Gibbs.{gamma0_tau, gamma0_tautau, gammar_pi, gammar_tau, gammar_tautau, residual};
 ghost use Rattle.r2.specs.Region2.{equation, ideal};
+ghost use Rattle.polynomial.specs.Terms.{term, total, alone};
 ghost use Rattle.polynomial.specs.Kinds.{only_0_j, only_i_j, only_i_ii_ij_jj};
 
 use float::log::ln;
-use polynomial::powers::powers;
-use polynomial::{
-    ALONE_ONCE, ALONE_SHARED, ALONE_TWICE, POLYS_0_J, POLYS_I_II_IJ_JJ, POLYS_I_J, Sums, divided,
-    none, only_0_j, only_i_ii_ij_jj, only_i_j, poly_i_powi_steps, poly_j_powi_steps,
-    poly_jj_powi_steps, tile, tiles,
+use polynomial::powers::Powers;
+use polynomial::steps::{
+    Alone, AloneShared, Derived, IIiIjJj, IJ, Not, Once, Read, Shared, Twice, ZeroJ,
 };
+use polynomial::table::Table;
+use polynomial::{Sums, divided, from, none, poly_powi_steps, tile, tiles};
 
 // Table 10 of the release, by columns.
 const J0: [i32; 9] = [0, 1, -5, -4, -3, -2, -1, 2, 3];
@@ -26,6 +27,17 @@ const N0: [f64; 9] = [
     -0.28408632460772e0,
     0.21268463753307e-1,
 ];
+
+// The same as a table; the power of vi, which no ideal-gas term has, is given that of vj.
+fn ideal_terms() -> Table<'static>
+    ensures { result ≡ equation.ideal_terms }
+{
+    Table {
+        is: &J0,
+        js: &J0,
+        ns: &N0,
+    }
+}
 
 // Table 11 of the release, by columns.
 const I: [i32; 43] = [
@@ -84,6 +96,17 @@ const N: [f64; 43] = [
     -0.94369707241210e-6,
 ];
 
+// The same as a table.
+fn residual_terms() -> Table<'static>
+    ensures { result ≡ equation.residual_terms }
+{
+    Table {
+        is: &I,
+        js: &J,
+        ns: &N,
+    }
+}
+
 // The ideal-gas part and its derivative in tau, as the entropy shares them.
 #[derive(Clone, Copy)]
 pub struct Ideal {
@@ -91,103 +114,96 @@ pub struct Ideal {
     pub derived: f64,
 }
 
+// The sum of the ideal-gas terms derived in tau as `Tau` says.
+fn ideal_derived<Tau: Derived>(tau: f64) -> f64
+    ensures { result ≡ total (alone Tau.order tau) equation.ideal_terms }
+{
+    let vj = Powers::of(tau);
+    let s = tile::<Alone<Tau>>(none(), &vj, &vj, &ideal_terms());
+    s.zero
+}
+
 // The ideal-gas part's first derivative in tau.
 pub fn gamma0_tau_reg2(tau: f64) -> f64
     ensures { result ≡ gamma0_tau equation tau }
 {
-    let ys = powers(tau);
-    let s = tile(ALONE_ONCE, none(), tau, tau, &ys, &ys, &J0, &J0, &N0);
-    s.zero
+    ideal_derived::<Once>(tau)
 }
 
 // The ideal-gas part's second derivative in tau.
 pub fn gamma0_tautau_reg2(tau: f64) -> f64
     ensures { result ≡ gamma0_tautau equation tau }
 {
-    let ys = powers(tau);
-    let s = tile(ALONE_TWICE, none(), tau, tau, &ys, &ys, &J0, &J0, &N0);
-    s.zero
+    ideal_derived::<Twice>(tau)
 }
 
 // The ideal-gas part, going on from ln pi, and its derivative in tau, divided once.
 pub fn gamma0_shared_reg2(pi: f64, tau: f64) -> Ideal
     ensures { result ≡ ideal pi tau }
 {
-    let start = Sums {
-        zero: ln(pi),
-        i: 0.0,
-        j: 0.0,
-        ii: 0.0,
-        ij: 0.0,
-        jj: 0.0,
-    };
-    let ys = powers(tau);
-    let s = tile(ALONE_SHARED, start, tau, tau, &ys, &ys, &J0, &J0, &N0);
+    let vj = Powers::of(tau);
+    let s = tile::<AloneShared>(from(ln(pi)), &vj, &vj, &ideal_terms());
     Ideal {
         part: s.zero,
         derived: s.j / tau,
     }
 }
 
+// The sum of the residual terms derived in pi as `Pi` says and in tau as `Tau` does.
+fn residual_derived<Pi: Derived, Tau: Derived>(pi: f64, tau: f64) -> f64
+    ensures { result ≡ total (term Pi.order Tau.order pi (equation.vj tau)) equation.residual_terms }
+{
+    poly_powi_steps::<Pi, Tau>(&Powers::of(pi), &Powers::of(tau - 0.5), &residual_terms())
+}
+
 // The residual part's first derivative in pi.
 pub fn gammar_pi_reg2(pi: f64, tau: f64) -> f64
     ensures { result ≡ gammar_pi equation pi tau }
 {
-    let vj = tau - 0.5;
-    let xs = powers(pi);
-    let ys = powers(vj);
-    poly_i_powi_steps(pi, vj, &xs, &ys, &I, &J, &N)
+    residual_derived::<Once, Not>(pi, tau)
 }
 
 // The residual part's first derivative in tau.
 pub fn gammar_tau_reg2(pi: f64, tau: f64) -> f64
     ensures { result ≡ gammar_tau equation pi tau }
 {
-    let vj = tau - 0.5;
-    let xs = powers(pi);
-    let ys = powers(vj);
-    poly_j_powi_steps(pi, vj, &xs, &ys, &I, &J, &N)
+    residual_derived::<Not, Once>(pi, tau)
 }
 
 // The residual part's second derivative in tau.
 pub fn gammar_tautau_reg2(pi: f64, tau: f64) -> f64
     ensures { result ≡ gammar_tautau equation pi tau }
 {
-    let vj = tau - 0.5;
-    let xs = powers(pi);
-    let ys = powers(vj);
-    poly_jj_powi_steps(pi, vj, &xs, &ys, &I, &J, &N)
+    residual_derived::<Not, Twice>(pi, tau)
+}
+
+// The residual part's derivatives that share their powers, those that are read.
+fn residual_shared<R: Read>(pi: f64, tau: f64) -> Sums
+    ensures { result ≡ R.only (residual equation pi tau) }
+{
+    let vi = Powers::of(pi);
+    let vj = Powers::of(tau - 0.5);
+    let s = tiles::<Shared<R>>(none(), &vi, &vj, &residual_terms());
+    R::only(divided(s, vi.base(), vj.base()))
 }
 
 // The residual part itself and its derivative in tau, which share their powers.
 pub fn polys_0_j_powi_reg2(pi: f64, tau: f64) -> Sums
     ensures { result ≡ only_0_j (residual equation pi tau) }
 {
-    let vj = tau - 0.5;
-    let xs = powers(pi);
-    let ys = powers(vj);
-    let s = tiles(POLYS_0_J, none(), pi, vj, &xs, &ys, &I, &J, &N);
-    only_0_j(divided(s, pi, vj))
+    residual_shared::<ZeroJ>(pi, tau)
 }
 
 // The residual part's first derivatives in pi and in tau, which share their powers.
 pub fn polys_i_j_powi_reg2(pi: f64, tau: f64) -> Sums
     ensures { result ≡ only_i_j (residual equation pi tau) }
 {
-    let vj = tau - 0.5;
-    let xs = powers(pi);
-    let ys = powers(vj);
-    let s = tiles(POLYS_I_J, none(), pi, vj, &xs, &ys, &I, &J, &N);
-    only_i_j(divided(s, pi, vj))
+    residual_shared::<IJ>(pi, tau)
 }
 
 // The residual part's derivatives in pi, twice in pi, in both and twice in tau, which share their powers.
 pub fn polys_i_ii_ij_jj_powi_reg2(pi: f64, tau: f64) -> Sums
     ensures { result ≡ only_i_ii_ij_jj (residual equation pi tau) }
 {
-    let vj = tau - 0.5;
-    let xs = powers(pi);
-    let ys = powers(vj);
-    let s = tiles(POLYS_I_II_IJ_JJ, none(), pi, vj, &xs, &ys, &I, &J, &N);
-    only_i_ii_ij_jj(divided(s, pi, vj))
+    residual_shared::<IIiIjJj>(pi, tau)
 }

@@ -12,6 +12,7 @@ use lib.Ieee.{Float, nan, inf, fin, binary64, fits, neg, add, lt, le, eq}
 use lib.Ieee.Bits.{is_true}
 use lib.Ieee.Fits.{and_l, neg-fits, add-fits, sub-fits, mul-fits}
 use lib.Ieee.Scale.{finite}
+use Rattle.std.specs.Prelude.{Ok}
 use Rattle.exact.specs.Operations.{◌⊕◌, ◌⊖◌, ◌⊗◌, ◌⊘◌}
 use Rattle.exact.specs.Value.{unit, in_units, negative, when, unless, plus, minus, double, AtMost}
 use Rattle.exact.specs.Rounding.{grid, Rounds}
@@ -28,9 +29,7 @@ use Rattle.float.specs.Sign.{nought}
 use Rattle.float.proofs.SquareRoot.{square_root_right}
 use Rattle.common.specs.Boundaries.{inside, found, checked}
 use Rattle.common.specs.declared.boundaries.Range.TheVariants.{T4}
-use Rattle.common.specs.declared.boundaries.Boundary.TheVariants.{At}
-use Rattle.r4.specs.Table34.{n1, n2, n3, n4, n5, n6, n7, n8, n9, n10}
-use Rattle.r4.specs.Saturation.{two, four, saturation_pressure, saturation_pressure_at}
+use Rattle.r4.specs.Saturation.{two, four, A, B, C, saturation_pressure, saturation_pressure_at}
 
 -- ---- the numbers of the tests, and of the bounds
 abbrev ten : ℕ → Float
@@ -318,25 +317,13 @@ is_in_range (inf true) h = absurd h
 is_in_range (inf false) h = absurd h
 is_in_range (fin s m e) h = tt
 
-answered : (t s : Float) → T (inside T4 t) → T (double s) → checked T4 t s ≡ At s
+answered : (t s : Float) → T (inside T4 t) → T (double s) → checked T4 t s ≡ Ok s
 unfolding checked found
 answered t s h d = rw (is_true (finite t) (is_in_range t h), is_true (inside T4 t) h, is_true (finite s) (and_l (finite s) (fits binary64 s) d))
 
 -- ---- the saturation line
-abbrev ϑ : Float → Float
-ϑ t = t ⊕ rounded n9 ⊘ (t ⊖ rounded n10)
-
-abbrev A : Float → Float
-A t = ϑ t ⊗ (ϑ t ⊕ rounded n1) ⊕ rounded n2
-
-abbrev B : Float → Float
-B t = ϑ t ⊗ (rounded n3 ⊗ ϑ t ⊕ rounded n4) ⊕ rounded n5
-
-abbrev C : Float → Float
-C t = ϑ t ⊗ (rounded n6 ⊗ ϑ t ⊕ rounded n7) ⊕ rounded n8
-
 pub above_the_line : (t p r : Float) → T (inside T4 t) → T (fits binary64 p) → T (fits binary64 r) → Tested (neg (B t)) (B t ⊗ B t ⊖ four ⊗ A t ⊗ C t) r (two ⊗ C t)
-    → T (le (whole_power (two ⊗ C t ⊘ (neg (B t) ⊕ r)) (+ 4)) p) → (saturation_pressure_at t ≡ At (saturation_pressure t)) × (lt p (saturation_pressure t) ≡ false)
+    → T (le (whole_power (two ⊗ C t ⊘ (neg (B t) ⊕ r)) (+ 4)) p) → (saturation_pressure_at t ≡ Ok (saturation_pressure t)) × (lt p (saturation_pressure t) ≡ false)
 unfolding saturation_pressure
 above_the_line t p r i f g h k =
     let fm = neg-fits binary64 (B t) (add-fits binary64 _ _) in

@@ -5,24 +5,24 @@ use lib.Dec.{T}
 use lib.Ieee.{Float, binary64, fits, lt, le}
 use lib.Ieee.Fits.{add-fits, mul-fits}
 use lib.Ieee.Scale.{finite}
+use Rattle.std.specs.Prelude.{Option, Ok, Err}
 use Rattle.exact.specs.Value.{double}
 use Rattle.exact.proofs.Value.{double_of}
 use Rattle.float.specs.Decimal.{−◌, number, rounded}
 use Rattle.float.specs.Power.{whole_power}
 use Rattle.common.specs.Constant.{T_623, T_863, p_623}
-use Rattle.common.specs.Boundaries.{B23_p, B23_T, inside, number_of, found, checked}
+use Rattle.common.specs.Boundaries.{B23_p, B23_T, inside, cause_of, found, checked}
 use Rattle.common.specs.declared.boundaries.Range.{Range}
 use Rattle.common.specs.declared.boundaries.Range.TheVariants.{T4, P4}
-use Rattle.common.specs.declared.boundaries.Boundary.TheVariants.{At as Answered, Refused}
+use Rattle.common.specs.declared.cause.Cause.TheVariants.{InputNotFinite, ResultNotFinite}
 use Rattle.r4.specs.Saturation.{saturation_pressure, saturation_temperature}
 use Rattle.r4.specs.Ends.{missing, place, read_off, p_lowest_1, T_most_1, T_least_2, p_most_2}
-use Rattle.r4.specs.declared.ends.End.{End}
 
 -- a double, unless it is missing
-abbrev pub Doubled : End → Type 0
+abbrev pub Doubled : Option Float → Type 0
 Doubled end = missing end ≡ false → T (double (place end))
 
-one_of : (b : Bool) (x y : End) → Doubled x → Doubled y → Doubled (cond b x y)
+one_of : (b : Bool) (x y : Option Float) → Doubled x → Doubled y → Doubled (cond b x y)
 one_of true x y p q = p
 one_of false x y p q = q
 
@@ -31,7 +31,7 @@ of_found : (x : Float) → T (fits binary64 x) → Doubled (read_off (found x))
 unfolding found
 of_found x f = by (finite x) refl
   where
-    by : (b : Bool) → finite x ≡ b → Doubled (read_off (cond b (Answered x) (Refused 9)))
+    by : (b : Bool) → finite x ≡ b → Doubled (read_off (cond b (Ok x) (Err ResultNotFinite)))
     by true e m = double_of x (subst T (sym e) tt) f
     by false e m = absurd (true≢false m)
 
@@ -39,7 +39,7 @@ of_checked : (range : Range) (y x : Float) → T (fits binary64 x) → Doubled (
 unfolding checked
 of_checked range y x f = by (finite y) (inside range y)
   where
-    by : (a b : Bool) → Doubled (read_off (cond a (cond b (found x) (Refused (number_of range))) (Refused 1)))
+    by : (a b : Bool) → Doubled (read_off (cond a (cond b (found x) (Err (cause_of range))) (Err InputNotFinite)))
     by false b m = absurd (true≢false m)
     by true false m = absurd (true≢false m)
     by true true m = of_found x f m

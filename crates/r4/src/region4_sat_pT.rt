@@ -1,10 +1,11 @@
 // Saturation pressure and temperature, in the Rust's order of operations.
-ghost use Rattle.std.specs.Prelude.{◌≡◌, true, false};
+ghost use Rattle.std.specs.Prelude.{◌≡◌, true, false, Ok};
 ghost use Rattle.std.specs.Float.Ieee.{lt};
-ghost use Rattle.common.specs.declared.boundaries.Boundary.TheVariants.{At};
-ghost use Rattle.r4.specs.Saturation.{saturation_pressure, saturation_temperature, saturation_pressure_at, saturation_temperature_at};
+ghost use Rattle.exact.specs.Operations.{◌⊖◌, ◌⊗◌};
+ghost use Rattle.r4.specs.Saturation.{four, A, B, C, saturation_pressure, saturation_temperature, saturation_pressure_at, saturation_temperature_at};
 
-use common::boundaries::{Boundary, Range, checked, inside};
+use common::boundaries::{Range, checked};
+use common::cause::Cause;
 use float::power::powi;
 use float::root::{fourth_root, sqrt};
 
@@ -29,15 +30,40 @@ const N9: f64 = -0.23855557567849e0;
 
 const N10: f64 = 0.65017534844798e3;
 
+// The coefficients of Eq. (30) at a temperature.
+#[derive(Clone, Copy)]
+struct Quadratic {
+    aco: f64,
+    bco: f64,
+    cco: f64,
+}
+
+impl Quadratic {
+    fn at(T: f64) -> Quadratic
+        ensures { result ≡ record { aco = A T; bco = B T; cco = C T } }
+    {
+        let del = T + N9 / (T - N10);
+        Quadratic {
+            aco: del * (del + N1) + N2,
+            bco: del * (N3 * del + N4) + N5,
+            cco: del * (N6 * del + N7) + N8,
+        }
+    }
+
+    // What the root is taken of.
+    fn square(self) -> f64
+        ensures { result ≡ self.bco ⊗ self.bco ⊖ four ⊗ self.aco ⊗ self.cco }
+    {
+        self.bco * self.bco - 4.0 * self.aco * self.cco
+    }
+}
+
 // The saturation pressure by the formula alone.
 pub fn p_saturation_formula(T: f64) -> f64
     ensures { result ≡ saturation_pressure T }
 {
-    let del = T + N9 / (T - N10);
-    let aco = del * (del + N1) + N2;
-    let bco = del * (N3 * del + N4) + N5;
-    let cco = del * (N6 * del + N7) + N8;
-    let a = 2.0 * cco / (-bco + sqrt(bco * bco - 4.0 * aco * cco));
+    let line = Quadratic::at(T);
+    let a = 2.0 * line.cco / (-line.bco + sqrt(line.square()));
     powi(a, 4)
 }
 
@@ -52,33 +78,30 @@ const LARGE: f64 = 1.0e30;
 // Whether p is surely no lower than the saturation pressure, by a bound that needs no exact root: a root that is too small makes the pressure too high. It says no near the line, which is
 // then to be asked itself, and where the guess is not too small. The tests with LARGE, 0, 1 and 1000 keep every operation in the range of doubles, and held at every temperature that was tried (docs/SPEED.md).
 pub fn surely_above(p: f64, T: f64) -> bool
-    ensures { result ≡ true → (saturation_pressure_at T ≡ At (saturation_pressure T)) × (lt p (saturation_pressure T) ≡ false) }
+    ensures { result ≡ true → (saturation_pressure_at T ≡ Ok (saturation_pressure T)) × (lt p (saturation_pressure T) ≡ false) }
 {
-    if !inside(Range::T4, T) {
-        return false;
-    }
-    let del = T + N9 / (T - N10);
-    let aco = del * (del + N1) + N2;
-    let bco = del * (N3 * del + N4) + N5;
-    let cco = del * (N6 * del + N7) + N8;
-    let square = bco * bco - 4.0 * aco * cco;
+    let line = Quadratic::at(T);
+    let square = line.square();
     let root = root_guess(T);
     let low = root * root;
-    let top = 2.0 * cco;
-    let bottom = -bco + root;
-    let a = top / bottom;
-    if 0.0 < low
+    let top = 2.0 * line.cco;
+    let bottom = -line.bco + root;
+    let bound = top / bottom;
+    // The last test stands apart: a chain of `&&` that is a result hands its tests to the proof one inside the other, and one that is a condition hands them side by side.
+    if Range::T4.contains(T)
+        && 0.0 < low
         && low < square
         && square < LARGE
         && 1.0 < bottom
         && bottom < LARGE
         && 0.0 < top
         && top < LARGE
-        && a < 1000.0
+        && bound < 1000.0
     {
-        return powi(a, 4) <= p;
+        powi(bound, 4) <= p
+    } else {
+        false
     }
-    false
 }
 
 // The saturation temperature by the formula alone.
@@ -94,15 +117,15 @@ pub fn T_saturation_formula(p: f64) -> f64
     0.5 * (N10 + dco - sqrt(temp))
 }
 
-// The saturation pressure in its range: 1, 2, 9, or the double.
-pub fn p_saturation(T: f64) -> Boundary
+// The saturation pressure in its range, else 1, 2 or 9.
+pub fn p_saturation(T: f64) -> Result<f64, Cause>
     ensures { result ≡ saturation_pressure_at T }
 {
     checked(Range::T4, T, p_saturation_formula(T))
 }
 
-// The saturation temperature in its range: 1, 3, 9, or the double.
-pub fn T_saturation(p: f64) -> Boundary
+// The saturation temperature in its range, else 1, 3 or 9.
+pub fn T_saturation(p: f64) -> Result<f64, Cause>
     ensures { result ≡ saturation_temperature_at p }
 {
     checked(Range::P4, p, T_saturation_formula(p))

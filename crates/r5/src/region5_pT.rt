@@ -2,13 +2,11 @@
 ghost use Rattle.std.specs.Prelude.{◌≡◌};
 ghost use Rattle.r5.specs.Region5.{pT2v, pT2u, pT2s, pT2h, pT2cp, pT2cv, pT2w};
 
-use crate::region5_gfe::{GAMMAR_PI, GAMMAR_TAU, GAMMAR_TAUTAU, ideal_reg5, residual_reg5};
+use crate::region5_gfe::{ideal_reg5, residual_reg5};
 use float::log::ln;
 use gibbs::{cp, cv, h, s, u, v, w};
-use polynomial::powers::powers;
-use polynomial::{
-    ALONE_ONCE, ALONE_SHARED, ALONE_TWICE, POLYS_0_J, POLYS_I_II_IJ_JJ, POLYS_I_J, divided,
-};
+use polynomial::divided;
+use polynomial::steps::{Alone, AloneShared, Direct, IIiIjJj, IJ, Not, Once, Shared, Twice, ZeroJ};
 
 const R5TSTAR: f64 = 1000.0;
 
@@ -17,9 +15,7 @@ pub fn pT2v_reg5(p: f64, T: f64) -> f64
     ensures { result ≡ pT2v p T }
 {
     let tau = R5TSTAR / T;
-    let xs = powers(p);
-    let ys = powers(tau);
-    let residual = residual_reg5(GAMMAR_PI, p, tau, &xs, &ys);
+    let residual = residual_reg5::<Direct<Once, Not>>(p, tau);
     v(p, T, residual.zero)
 }
 
@@ -28,10 +24,8 @@ pub fn pT2u_reg5(p: f64, T: f64) -> f64
     ensures { result ≡ pT2u p T }
 {
     let tau = R5TSTAR / T;
-    let xs = powers(p);
-    let ys = powers(tau);
-    let ideal = ideal_reg5(ALONE_ONCE, 0.0, tau, &ys);
-    let residual = residual_reg5(POLYS_I_J, p, tau, &xs, &ys);
+    let ideal = ideal_reg5::<Alone<Once>>(0.0, tau);
+    let residual = residual_reg5::<Shared<IJ>>(p, tau);
     u(p, T, tau, ideal.zero, divided(residual, p, tau))
 }
 
@@ -40,10 +34,8 @@ pub fn pT2s_reg5(p: f64, T: f64) -> f64
     ensures { result ≡ pT2s p T }
 {
     let tau = R5TSTAR / T;
-    let xs = powers(p);
-    let ys = powers(tau);
-    let ideal = ideal_reg5(ALONE_SHARED, ln(p), tau, &ys);
-    let residual = residual_reg5(POLYS_0_J, p, tau, &xs, &ys);
+    let ideal = ideal_reg5::<AloneShared>(ln(p), tau);
+    let residual = residual_reg5::<Shared<ZeroJ>>(p, tau);
     s(tau, ideal.zero, ideal.j / tau, divided(residual, p, tau))
 }
 
@@ -52,10 +44,8 @@ pub fn pT2h_reg5(p: f64, T: f64) -> f64
     ensures { result ≡ pT2h p T }
 {
     let tau = R5TSTAR / T;
-    let xs = powers(p);
-    let ys = powers(tau);
-    let ideal = ideal_reg5(ALONE_ONCE, 0.0, tau, &ys);
-    let residual = residual_reg5(GAMMAR_TAU, p, tau, &xs, &ys);
+    let ideal = ideal_reg5::<Alone<Once>>(0.0, tau);
+    let residual = residual_reg5::<Direct<Not, Once>>(p, tau);
     h(R5TSTAR, ideal.zero, residual.zero)
 }
 
@@ -64,10 +54,8 @@ pub fn pT2cp_reg5(p: f64, T: f64) -> f64
     ensures { result ≡ pT2cp p T }
 {
     let tau = R5TSTAR / T;
-    let xs = powers(p);
-    let ys = powers(tau);
-    let ideal = ideal_reg5(ALONE_TWICE, 0.0, tau, &ys);
-    let residual = residual_reg5(GAMMAR_TAUTAU, p, tau, &xs, &ys);
+    let ideal = ideal_reg5::<Alone<Twice>>(0.0, tau);
+    let residual = residual_reg5::<Direct<Not, Twice>>(p, tau);
     cp(tau, ideal.zero, residual.zero)
 }
 
@@ -76,10 +64,8 @@ pub fn pT2cv_reg5(p: f64, T: f64) -> f64
     ensures { result ≡ pT2cv p T }
 {
     let tau = R5TSTAR / T;
-    let xs = powers(p);
-    let ys = powers(tau);
-    let ideal = ideal_reg5(ALONE_TWICE, 0.0, tau, &ys);
-    let residual = residual_reg5(POLYS_I_II_IJ_JJ, p, tau, &xs, &ys);
+    let ideal = ideal_reg5::<Alone<Twice>>(0.0, tau);
+    let residual = residual_reg5::<Shared<IIiIjJj>>(p, tau);
     cv(p, tau, ideal.zero, divided(residual, p, tau))
 }
 
@@ -88,9 +74,7 @@ pub fn pT2w_reg5(p: f64, T: f64) -> f64
     ensures { result ≡ pT2w p T }
 {
     let tau = R5TSTAR / T;
-    let xs = powers(p);
-    let ys = powers(tau);
-    let ideal = ideal_reg5(ALONE_TWICE, 0.0, tau, &ys);
-    let residual = residual_reg5(POLYS_I_II_IJ_JJ, p, tau, &xs, &ys);
+    let ideal = ideal_reg5::<Alone<Twice>>(0.0, tau);
+    let residual = residual_reg5::<Shared<IIiIjJj>>(p, tau);
     w(p, T, tau, ideal.zero, divided(residual, p, tau))
 }

@@ -1,17 +1,12 @@
-// What a line asks, by the numbers of the C interface. A field that its call does not use is any digits.
+// What a line asks, by the numbers of the C interface.
 use climboat::calls::{Th2p, Ts2p, Tv2p, pT, pv2T};
-use digits::{Number, double, number_of};
+use digits::{double, number_of};
 use vessel::answer::Answer;
 use vessel::saturation::{
     B23_pressure, B23_temperature, saturation_pressure, saturation_temperature,
 };
 
-#[derive(Clone, Copy)]
-pub enum Reply {
-    Given(Answer),
-    NotAnInput,
-}
-
+// A field that its call does not use is any digits.
 #[derive(Clone, Copy)]
 struct Input {
     call: u32,
@@ -22,78 +17,52 @@ struct Input {
     second: f64,
 }
 
-fn asked(i: Input) -> Reply {
-    let call = i.call;
-    match call {
-        1 => Reply::Given(pT(i.region, i.property, i.first, i.second)),
-        2 => Reply::Given(saturation_pressure(i.first)),
-        3 => Reply::Given(saturation_temperature(i.first)),
-        4 => Reply::Given(B23_pressure(i.first)),
-        5 => Reply::Given(B23_temperature(i.first)),
-        6 => Reply::Given(pv2T(i.region, i.first, i.second, i.limit)),
-        7 => Reply::Given(Tv2p(i.region, i.first, i.second, i.limit)),
-        8 => Reply::Given(Th2p(i.region, i.first, i.second, i.limit)),
-        9 => Reply::Given(Ts2p(i.region, i.first, i.second, i.limit)),
-        _ => Reply::NotAnInput,
+// The number in the next field, which is so wide and ends in this byte. The rest begins behind it.
+fn field(rest: &mut &[u8], width: usize, end: u8) -> Option<u64> {
+    let (digits, behind) = rest.split_at_checked(width)?;
+    let (last, behind) = behind.split_first()?;
+    if *last != end {
+        return None;
+    }
+    *rest = behind;
+    number_of(digits)
+}
+
+fn whole(rest: &mut &[u8], width: usize) -> Option<u32> {
+    u32::try_from(field(rest, width, b' ')?).ok()
+}
+
+impl Input {
+    fn read(line: &[u8; 47]) -> Option<Input> {
+        let mut rest = &line[..];
+        Some(Input {
+            call: whole(&mut rest, 2)?,
+            region: whole(&mut rest, 1)?,
+            property: whole(&mut rest, 1)?,
+            limit: whole(&mut rest, 5)?,
+            first: double(field(&mut rest, 16, b' ')?),
+            second: double(field(&mut rest, 16, b'\n')?),
+        })
+    }
+
+    // What the vessel answers, where the number names a call.
+    fn answer(self) -> Option<Answer> {
+        match self.call {
+            1 => Some(pT(self.region, self.property, self.first, self.second)),
+            2 => Some(saturation_pressure(self.first)),
+            3 => Some(saturation_temperature(self.first)),
+            4 => Some(B23_pressure(self.first)),
+            5 => Some(B23_temperature(self.first)),
+            6 => Some(pv2T(self.region, self.first, self.second, self.limit)),
+            7 => Some(Tv2p(self.region, self.first, self.second, self.limit)),
+            8 => Some(Th2p(self.region, self.first, self.second, self.limit)),
+            9 => Some(Ts2p(self.region, self.first, self.second, self.limit)),
+            _ => None,
+        }
     }
 }
 
-fn separated(line: &[u8; 47]) -> bool {
-    line[2] == b' '
-        && line[4] == b' '
-        && line[6] == b' '
-        && line[12] == b' '
-        && line[29] == b' '
-        && line[46] == b'\n'
-}
-
-#[derive(Clone, Copy)]
-enum Whole {
-    Is(u32),
-    Not,
-}
-
-// A whole number of 32 bits.
-fn field(text: &[u8]) -> Whole {
-    let Number::Is(n) = number_of(text) else {
-        return Whole::Not;
-    };
-    if n > 0xffff_ffff {
-        return Whole::Not;
-    }
-    Whole::Is(n as u32)
-}
-
-// What the vessel answers to a line.
-pub fn answered(line: &[u8; 47]) -> Reply {
-    if !separated(line) {
-        return Reply::NotAnInput;
-    }
-    let text = &line[..];
-    let Whole::Is(call) = field(&text[0..2]) else {
-        return Reply::NotAnInput;
-    };
-    let Whole::Is(region) = field(&text[3..4]) else {
-        return Reply::NotAnInput;
-    };
-    let Whole::Is(property) = field(&text[5..6]) else {
-        return Reply::NotAnInput;
-    };
-    let Whole::Is(limit) = field(&text[7..12]) else {
-        return Reply::NotAnInput;
-    };
-    let Number::Is(first) = number_of(&text[13..29]) else {
-        return Reply::NotAnInput;
-    };
-    let Number::Is(second) = number_of(&text[30..46]) else {
-        return Reply::NotAnInput;
-    };
-    asked(Input {
-        call,
-        region,
-        property,
-        limit,
-        first: double(first),
-        second: double(second),
-    })
+// What the vessel answers to a line, where that is an input.
+pub fn answered(line: &[u8; 47]) -> Option<Answer> {
+    Input::read(line)?.answer()
 }

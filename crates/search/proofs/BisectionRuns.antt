@@ -15,15 +15,17 @@ use Rattle.exact.specs.Middle.{half, middle}
 use Rattle.exact.proofs.Finite.{add-number}
 use Rattle.exact.proofs.Halfway.{middle-between}
 use Rattle.float.specs.Sign.{nought, magnitude, same_sign}
-use Rattle.search.specs.Run.{Go, stop, go, states_from, last, Every}
-use Rattle.search.specs.Bisection.{small, middle_of, outside, step, width_of, narrow, turn, turn_go, next, spent, bisection, bisection_brackets}
+use Rattle.std.specs.declared.ops.ControlFlow.{ControlFlow}
+use Rattle.std.specs.declared.ops.ControlFlow.TheVariants.{Continue, Break}
+use Rattle.common.specs.declared.cause.Cause.TheVariants.{ResidualNotFinite, PointOutside}
+use Rattle.search.specs.Run.{states_from, last, Every}
+use Rattle.search.specs.Bisection.{small, middle_of, outside, step, width_of, narrow, turn, next, spent, bisection, bisection_brackets}
 use Rattle.search.specs.Demand.{Opposite, Start, Within, Nested, reported, RunOwes, Part}
 use Rattle.search.specs.Patience.{Spent, steps_of, enough, Counts}
 use Rattle.search.specs.declared.bracket.Bracket.{Bracket}
 use Rattle.search.specs.declared.bracket.Outcome.{Outcome}
 use Rattle.search.specs.declared.bracket.Outcome.TheVariants.{SmallResidual, Narrow, Refused}
 use Rattle.search.specs.declared.bisection.Width.{Width}
-use Rattle.search.specs.declared.bisection.Turn.TheVariants.{Done, Next}
 use Rattle.search.proofs.Runs.{Hands, keeps, reports_last, reports_each, counts}
 use Rattle.search.proofs.Narrow.{narrow-distance, narrow-part}
 use Rattle.search.proofs.Residuals.{Nonzero, of_true, not-small, sign-rule}
@@ -73,12 +75,12 @@ kept f w b (h, o) i n = by (sign-rule r b.r1 b.r2 n o)
 
 -- ---- which rule a turn went by
 module _ (width : Bracket → Float) (f : Float → Float) where
-  data Rule (b : Bracket) (n : ℕ) : Go Outcome Bracket → Type 0 where
-    outside_now : Rule b n (stop (Refused 10 nought n b))
-    spoilt_now : Rule b n (stop (Refused 6 nought (n + 1) b))
-    small_now : outside b ≡ false → lt (magnitude (f (middle_of b))) small ≡ true → Rule b n (stop (SmallResidual (middle_of b) (n + 1) b))
-    narrow_now : outside b ≡ false → narrow width b ≡ true → Rule b n (stop (Narrow (middle_of b) (n + 1) b))
-    next_now : outside b ≡ false → Nonzero (f (middle_of b)) → Rule b n (go (step b (f (middle_of b))))
+  data Rule (b : Bracket) (n : ℕ) : ControlFlow Outcome Bracket → Type 0 where
+    outside_now : Rule b n (Break (Refused PointOutside nought n b))
+    spoilt_now : Rule b n (Break (Refused ResidualNotFinite nought (n + 1) b))
+    small_now : outside b ≡ false → lt (magnitude (f (middle_of b))) small ≡ true → Rule b n (Break (SmallResidual (middle_of b) (n + 1) b))
+    narrow_now : outside b ≡ false → narrow width b ≡ true → Rule b n (Break (Narrow (middle_of b) (n + 1) b))
+    next_now : outside b ≡ false → Nonzero (f (middle_of b)) → Rule b n (Continue (step b (f (middle_of b))))
 
   rule_of : (b : Bracket) (n : ℕ) → Rule b n (next width f b n)
   unfolding next turn
@@ -88,7 +90,7 @@ module _ (width : Bracket → Float) (f : Float → Float) where
       m = middle_of b
 
       pick : (o : Bool) → outside b ≡ o → (g : Bool) → finite (f m) ≡ g → (s : Bool) → lt (magnitude (f m)) small ≡ s → (w : Bool) → narrow width b ≡ w
-          → Rule b n (cond o (stop (Refused 10 nought n b)) (turn_go (cond g (cond s (Done (SmallResidual m (n + 1) b)) (cond w (Done (Narrow m (n + 1) b)) (Next (step b (f m))))) (Done (Refused 6 nought (n + 1) b)))))
+          → Rule b n (cond o (Break (Refused PointOutside nought n b)) (cond g (cond s (Break (SmallResidual m (n + 1) b)) (cond w (Break (Narrow m (n + 1) b)) (Continue (step b (f m))))) (Break (Refused ResidualNotFinite nought (n + 1) b))))
       pick true p g q s r w v = outside_now
       pick false p false q s r w v = spoilt_now
       pick false p true q true r w v = small_now p r
@@ -99,7 +101,7 @@ module _ (width : Bracket → Float) (f : Float → Float) where
   inward : (b : Bracket) (n : ℕ) → Kept f b b → Hands (λ o. Prim.Unit {0}) (λ c. Kept f c c × Within c b) (next width f b n)
   inward b n k = by (rule_of b n)
     where
-      by : {t : Go Outcome Bracket} → Rule b n t → Hands (λ o. Prim.Unit {0}) (λ c. Kept f c c × Within c b) t
+      by : {t : ControlFlow Outcome Bracket} → Rule b n t → Hands (λ o. Prim.Unit {0}) (λ c. Kept f c c × Within c b) t
       by outside_now = tt
       by spoilt_now = tt
       by (small_now p q) = tt
@@ -114,7 +116,7 @@ module _ (width : Bracket → Float) (f : Float → Float) where
   turn_reports : (b : Bracket) (n : ℕ) → Prim.Unit {0} → Hands (λ o. reported o ≡ b) (λ c. Prim.Unit {0}) (next width f b n)
   turn_reports b n u = by (rule_of b n)
     where
-      by : {t : Go Outcome Bracket} → Rule b n t → Hands (λ o. reported o ≡ b) (λ c. Prim.Unit {0}) t
+      by : {t : ControlFlow Outcome Bracket} → Rule b n t → Hands (λ o. reported o ≡ b) (λ c. Prim.Unit {0}) t
       by outside_now = refl
       by spoilt_now = refl
       by (small_now p q) = refl
@@ -138,7 +140,7 @@ module _ (width : Bracket → Float) (f : Float → Float) where
   turn_counts : (b : Bracket) (n : ℕ) → Hands (Stops n) (λ c. Prim.Unit {0}) (next width f b n)
   turn_counts b n = by (rule_of b n)
     where
-      by : {t : Go Outcome Bracket} → Rule b n t → Hands (Stops n) (λ c. Prim.Unit {0}) t
+      by : {t : ControlFlow Outcome Bracket} → Rule b n t → Hands (Stops n) (λ c. Prim.Unit {0}) t
       by outside_now = (refl, λ e. omega (arith, e))
       by spoilt_now = (omega arith, λ e. omega (arith, e))
       by (small_now p q) = (omega arith, λ e. e)
@@ -157,7 +159,7 @@ module _ (width : Bracket → Float) (f : Float → Float) where
     turn_owes : (b : Bracket) (n : ℕ) → Kept f s b → Hands Owed (Kept f s) (next width f b n)
     turn_owes b n k = by (rule_of b n)
       where
-        by : {t : Go Outcome Bracket} → Rule b n t → Hands Owed (Kept f s) t
+        by : {t : ControlFlow Outcome Bracket} → Rule b n t → Hands Owed (Kept f s) t
         by outside_now = (inr (inr refl), within (started g) k.0)
         by spoilt_now = (inl refl, within (started g) k.0)
         by (small_now i p) = (of_true p, lies (started g) k.0 (middled f s b k.0 i))
@@ -177,7 +179,7 @@ module _ (rule : Width) (f : Float → Float) (s : Bracket) (g : Start f s) wher
   turn-part : (b : Bracket) (n : ℕ) → Kept f s b → Hands (Part rule) (Kept f s) (next (width_of rule) f b n)
   turn-part b n k = by (rule_of (width_of rule) f b n)
     where
-      by : {t : Go Outcome Bracket} → Rule (width_of rule) f b n t → Hands (Part rule) (Kept f s) t
+      by : {t : ControlFlow Outcome Bracket} → Rule (width_of rule) f b n t → Hands (Part rule) (Kept f s) t
       by outside_now = tt
       by spoilt_now = tt
       by (small_now i p) = tt

@@ -21,9 +21,12 @@ use Rattle.exact.proofs.Value.{double_of}
 use Rattle.exact.proofs.Order.{lt→exact, exact→lt, le→exact, not_lt→le}
 use Rattle.exact.proofs.Width.{half-narrow}
 use Rattle.float.specs.Sign.{nought, magnitude, sign_taken, same_sign}
+use Rattle.std.specs.declared.ops.ControlFlow.{ControlFlow}
+use Rattle.std.specs.declared.ops.ControlFlow.TheVariants.{Continue, Break}
+use Rattle.common.specs.declared.cause.Cause.TheVariants.{ResidualNotFinite, PointOutside}
 use Rattle.search.specs.Run.{states_from, last, Every}
 use Rattle.search.specs.Bracket.{ordered, strictly_between}
-use Rattle.search.specs.Brent.{bracket_of, by_sign, start, sorted, tolerance, half_width, halved, lengths, next_point, with_lengths, aim_sorted, aim, step, turn_go, aimed, next, spent, zbrent, zbrent_brackets}
+use Rattle.search.specs.Brent.{bracket_of, by_sign, start, sorted, tolerance, half_width, halved, lengths, next_point, with_lengths, aim_sorted, aim, step, aimed, next, spent, zbrent, zbrent_brackets}
 use Rattle.search.specs.Demand.{Opposite, Zero, Start, Within, Signed, Nested, reported, Lies, Enclosed, Owes}
 use Rattle.search.specs.Patience.{Spent, steps_of, enough, Counts}
 use Rattle.search.specs.declared.bracket.Bracket.{Bracket}
@@ -33,8 +36,6 @@ use Rattle.search.specs.declared.brent.Lengths.{Lengths}
 use Rattle.search.specs.declared.bracket.Outcome.{Outcome}
 use Rattle.search.specs.declared.bracket.Outcome.TheVariants.{SmallResidual, Narrow, Refused}
 use Rattle.search.specs.declared.brent.Aim.{Aim}
-use Rattle.search.specs.declared.brent.Aim.TheVariants.{Stop, At}
-use Rattle.search.specs.declared.brent.BrentTurn.TheVariants.{Ended, On}
 use Rattle.search.proofs.Runs.{Hands, handed, keeps, reports_last, reports_each, counts}
 use Rattle.search.proofs.Magnitude.{magnitude-le, bounded_finite}
 use Rattle.search.proofs.Residuals.{Nonzero, of_true, three_ways, zero-sign, not-less, opposite_sym, sign-rule, same}
@@ -91,11 +92,11 @@ whole_finite (inf t) h = h
 whole_finite (fin t m e) h = tt
 
 -- ---- which rule an aim went by
-data Rule (s : Brent) (n : ℕ) : Aim → Type 0 where
-  zero_now : Zero s.fb → Rule s n (Stop (SmallResidual s.b n (bracket_of s)))
-  narrow_now : eq s.fb nought ≡ false → le (magnitude (half_width s)) (tolerance s.b) ≡ true → Rule s n (Stop (Narrow s.b n (bracket_of s)))
-  point_now : eq s.fb nought ≡ false → (l : Lengths) (x : Float) → T (fits binary64 x) → strictly_between x s.b s.c ≡ true → Rule s n (At (with_lengths s l) x)
-  none_now : Rule s n (Stop (Refused 10 nought n (bracket_of s)))
+data Rule (s : Brent) (n : ℕ) : ControlFlow Outcome Aim → Type 0 where
+  zero_now : Zero s.fb → Rule s n (Break (SmallResidual s.b n (bracket_of s)))
+  narrow_now : eq s.fb nought ≡ false → le (magnitude (half_width s)) (tolerance s.b) ≡ true → Rule s n (Break (Narrow s.b n (bracket_of s)))
+  point_now : eq s.fb nought ≡ false → (l : Lengths) (x : Float) → T (fits binary64 x) → strictly_between x s.b s.c ≡ true → Rule s n (Continue (record { state = with_lengths s l; x = x }))
+  none_now : Rule s n (Break (Refused PointOutside nought n (bracket_of s)))
 
 next_fits : (s : Brent) (l : Lengths) → T (fits binary64 (next_point s l))
 unfolding next_point
@@ -118,7 +119,7 @@ rule s n = pick (eq s.fb nought) refl (le (magnitude (half_width s)) (tolerance 
     m = middle s.b s.c
 
     pick : (z : Bool) → eq s.fb nought ≡ z → (t : Bool) → le (magnitude (half_width s)) (tolerance s.b) ≡ t → (u : Bool) → strictly_between x s.b s.c ≡ u → (v : Bool) → strictly_between m s.b s.c ≡ v
-        → Rule s n (cond z (Stop (SmallResidual s.b n (bracket_of s))) (cond t (Stop (Narrow s.b n (bracket_of s))) (cond u (At (with_lengths s (lengths s)) x) (cond v (At (with_lengths s (halved s)) m) (Stop (Refused 10 nought n (bracket_of s)))))))
+        → Rule s n (cond z (Break (SmallResidual s.b n (bracket_of s))) (cond t (Break (Narrow s.b n (bracket_of s))) (cond u (Continue (record { state = with_lengths s (lengths s); x = x })) (cond v (Continue (record { state = with_lengths s (halved s); x = m })) (Break (Refused PointOutside nought n (bracket_of s)))))))
     pick true z t p u q v r = zero_now z
     pick false z true p u q v r = narrow_now z p
     pick false z false p true q v r = point_now z (lengths s) x (next_fits s (lengths s)) q
@@ -134,17 +135,17 @@ module _ (f : Float → Float) where
   unfolding next aim
   turn_counts s n = by (rule (sorted s) n)
     where
-      failed : (t : Brent) (x : Float) → Hands (Stops n) (λ c. Prim.Unit {0}) (turn_go (step t x (f x) (n + 1)))
-      failed t x = unfold step in pick _ (finite (f x))
+      failed : (t : Aim) → Hands (Stops n) (λ c. Prim.Unit {0}) (step t (f t.x) (n + 1))
+      failed t = unfold step in pick _ (finite (f t.x))
         where
-          pick : (c : Brent) (b : Bool) → Hands (Stops n) (λ c. Prim.Unit {0}) (turn_go (cond b (On c) (Ended (Refused 6 nought (n + 1) (bracket_of t)))))
+          pick : (c : Brent) (b : Bool) → Hands (Stops n) (λ c. Prim.Unit {0}) (cond b (Continue c) (Break (Refused ResidualNotFinite nought (n + 1) (bracket_of t.state))))
           pick c true = tt
           pick c false = (omega arith, λ e. omega (arith, e))
 
-      by : {t : Aim} → Rule (sorted s) n t → Hands (Stops n) (λ c. Prim.Unit {0}) (aimed f n t)
+      by : {t : ControlFlow Outcome Aim} → Rule (sorted s) n t → Hands (Stops n) (λ c. Prim.Unit {0}) (aimed f n t)
       by (zero_now z) = (refl, λ e. e)
       by (narrow_now z k) = (refl, λ e. e)
-      by (point_now z l x t k) = failed (with_lengths (sorted s) l) x
+      by (point_now z l x t k) = failed (record { state = with_lengths (sorted s) l; x = x })
       by none_now = (refl, λ e. omega (arith, e))
 
   pub zbrent_counts : (s : Bracket) → Counts 1 (zbrent f s)
@@ -259,7 +260,7 @@ module _ (f : Float → Float) (w : Bracket) where
     abbrev Owed : Brent → Outcome → Type 0
     Owed s o = Owes ByBrent f w o × (reported o ≡ bracket_of s)
 
-    stepped : (s : Brent) (l : Lengths) (x : Float) (n : ℕ) → Sound f w s → eq s.fb nought ≡ false → Place f w x (f x) × Unlike x s.b × Unlike x s.c → Hands (Owed s) (Sound f w) (turn_go (step (with_lengths s l) x (f x) n))
+    stepped : (s : Brent) (l : Lengths) (x : Float) (n : ℕ) → Sound f w s → eq s.fb nought ≡ false → Place f w x (f x) × Unlike x s.b × Unlike x s.c → Hands (Owed s) (Sound f w) (step (record { state = with_lengths s l; x = x }) (f x) n)
     unfolding step
     stepped s l x n h z p = pick (finite (f x)) refl
       where
@@ -269,11 +270,11 @@ module _ (f : Float → Float) (w : Bracket) where
         u : Brent
         u = record { a = s.b; b = x; c = s.c; fa = s.fb; fb = f x; fc = s.fc; d = l.d; e = l.e }
 
-        pick : (q : Bool) → finite (f x) ≡ q → Hands (Owed s) (Sound f w) (turn_go (cond q (On (by_sign u)) (Ended (Refused 6 nought n (bracket_of t)))))
+        pick : (q : Bool) → finite (f x) ≡ q → Hands (Owed s) (Sound f w) (cond q (Continue (by_sign u)) (Break (Refused ResidualNotFinite nought n (bracket_of t))))
         pick true q = by_sign_lem u h.last p.0 h.other (opposite_sym s.fb s.fc (opposite_now s h z)) p.1 p.2 (three_ways (f x) q)
         pick false q = unfold bracket_of in ((inl refl, within g (held t (record { last = h.last; other = h.other; signs = h.signs; apart = h.apart }))), refl)
 
-    aimed_owes : (s : Brent) (n : ℕ) → Sound f w s → {t : Aim} → Rule s n t → Hands (Owed s) (Sound f w) (aimed f n t)
+    aimed_owes : (s : Brent) (n : ℕ) → Sound f w s → {t : ControlFlow Outcome Aim} → Rule s n t → Hands (Owed s) (Sound f w) (aimed f n t)
     aimed_owes s n h (zero_now z) = ((subst Zero h.last.residual z, zero-lies s h), refl)
     aimed_owes s n h (narrow_now z k) = (narrow_owes s h z k, refl)
     aimed_owes s n h (point_now z l x t k) = stepped s l x (n + 1) h z (strict s h x t k)

@@ -11,7 +11,9 @@ use lib.Ieee.{Float, le}
 use Rattle.exact.specs.Value.{double, AtMost}
 use Rattle.exact.specs.Rounding.{distance}
 use Rattle.exact.proofs.Order.{lt→exact, exact→le}
-use Rattle.search.specs.Run.{Go, stop, go, states_from}
+use Rattle.std.specs.declared.ops.ControlFlow.{ControlFlow}
+use Rattle.std.specs.declared.ops.ControlFlow.TheVariants.{Continue, Break}
+use Rattle.search.specs.Run.{states_from}
 use Rattle.search.specs.Demand.{Opposite, Zero, Start, Within, Signed, Nested, Lies, Enclosed}
 use Rattle.search.specs.declared.bracket.Bracket.{Bracket}
 use Rattle.search.specs.declared.bracket.Outcome.{Outcome}
@@ -78,7 +80,7 @@ module _ {f : Float → Float} where
       }
 
 -- ---- the brackets that `view` shows of a run's states are nested, where each turn keeps P and goes inward
-module _ {S : Type 0} (f : Float → Float) (view : S → Bracket) (next : S → ℕ → Go Outcome S) (P : S → Type 0)
+module _ {S : Type 0} (f : Float → Float) (view : S → Bracket) (next : S → ℕ → ControlFlow Outcome S) (P : S → Type 0)
     (shows : (s : S) → P s → Signed f (view s)) (turn : (s : S) (n : ℕ) → P s → Hands (λ o. Prim.Unit {0}) (λ c. P c × Within (view c) (view s)) (next s n)) where
   abbrev Views : List S → Type 0
   Views l = Nested f (map view l)
@@ -87,8 +89,8 @@ module _ {S : Type 0} (f : Float → Float) (view : S → Bracket) (next : S →
   nested zero s n p = unfold states_from in shows s p
   nested (suc k) s n p = by (λ c. nested k c (n + 1)) (next s n) refl (turn s n p)
     where
-      by : ((c : S) → P c → Views (states_from next k c (n + 1))) → (t : Go Outcome S) → next s n ≡ t → Hands (λ o. Prim.Unit {0}) (λ c. P c × Within (view c) (view s)) t → Views (states_from next (suc k) s n)
-      by ih (stop o) e h = subst Views (sym (states_stop next k s n o e)) (shows s p)
-      by ih (go c) e h =
+      by : ((c : S) → P c → Views (states_from next k c (n + 1))) → (t : ControlFlow Outcome S) → next s n ≡ t → Hands (λ o. Prim.Unit {0}) (λ c. P c × Within (view c) (view s)) t → Views (states_from next (suc k) s n)
+      by ih (Break o) e h = subst Views (sym (states_stop next k s n o e)) (shows s p)
+      by ih (Continue c) e h =
           let r = states_first next k c (n + 1) in
           subst Views (sym (states_go next k s n c e ∙ ap (λ (l : List S). s ∷ l) r.1)) (shows s p, h.1, subst Views r.1 (ih c h.0))

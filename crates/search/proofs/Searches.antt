@@ -10,6 +10,7 @@ use lib.Dec.{T}
 use lib.Ieee.{Float, lt}
 use lib.Ieee.Scale.{finite}
 use Rattle.exact.specs.Value.{double}
+use Rattle.std.specs.declared.ops.ControlFlow.TheVariants.{Continue}
 use Rattle.search.specs.Run.{last}
 use Rattle.search.specs.Bisection.{width_of}
 use Rattle.search.specs.Decision.{Row, ◌⇒◌, decided, None}
@@ -18,7 +19,6 @@ use Rattle.search.specs.Demand.{Start, Signed, Nested, reported, Told, Owes, Par
 use Rattle.search.specs.declared.bracket.Bracket.{Bracket}
 use Rattle.search.specs.declared.bracket.Outcome.{Outcome}
 use Rattle.search.specs.declared.bracket.Outcome.TheVariants.{ExactEnd, SmallResidual, Narrow, Refused}
-use Rattle.search.specs.declared.bracket.Opening.TheVariants.{Open}
 use Rattle.search.specs.declared.bisection.Width.{Width}
 use Rattle.search.specs.declared.method.Method.{Method}
 use Rattle.search.specs.declared.method.Method.TheVariants.{ByBisection, ByBrent}
@@ -28,7 +28,7 @@ use Rattle.search.proofs.Narrow.{rule-double}
 use Rattle.search.proofs.BrentRuns.{zbrent_owes, zbrent-nested, zbrent_reports, zbrent-each}
 
 -- ---- the list, as the code goes through it
-pub opening : (rows : List (Row Outcome)) (b : Bracket) (steps : Bracket → Outcome) → searched steps (decided (closing rows) (Open b)) ≡ decided rows (steps b)
+pub opening : (rows : List (Row Outcome)) (b : Bracket) (steps : Bracket → Outcome) → searched steps (decided (closing rows) (Continue b)) ≡ decided rows (steps b)
 opening [] b steps = refl
 opening ((true ⇒ o) ∷ rows) b steps = refl
 opening ((false ⇒ o) ∷ rows) b steps = opening rows b steps
@@ -74,7 +74,7 @@ ran : (m : Method) (f : Float → Float) (s : Bracket) (o : Outcome) → Owes m 
 ran m f s (ExactEnd v b) k = absurd k
 ran m f s (SmallResidual v n b) k = k
 ran m f s (Narrow v n b) k = k
-ran m f s (Refused number v n b) k = inr (inr (inr k))
+ran m f s (Refused cause v n b) k = inr (inr (inr k))
 
 -- ---- from the two ends, any doubles: where no row of the opening holds they are a start
 module _ (f : Float → Float) (low high : Float) (p : T (double low)) (q : T (double high)) where

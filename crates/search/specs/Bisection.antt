@@ -2,18 +2,19 @@
 use Rattle.std.specs.Prelude.{ℕ, ◌+◌, Bool, cond, ◌||◌, List, Float}
 use Rattle.std.specs.Float.Ieee.{lt}
 use Rattle.std.specs.Float.Ieee.Scale.{finite}
+use Rattle.std.specs.declared.ops.ControlFlow.{ControlFlow}
+use Rattle.std.specs.declared.ops.ControlFlow.TheVariants.{Continue, Break}
 use Rattle.exact.specs.Operations.{◌⊖◌, ◌⊗◌}
 use Rattle.exact.specs.Middle.{middle}
 use Rattle.float.specs.Decimal.{−◌, number, rounded}
 use Rattle.float.specs.Sign.{nought, magnitude, same_sign}
-use Rattle.search.specs.Run.{Go, stop, go, run_from, states_from}
+use Rattle.common.specs.declared.cause.Cause.TheVariants.{ResidualNotFinite, StepsSpent, PointOutside}
+use Rattle.search.specs.Run.{run_from, states_from}
 use Rattle.search.specs.declared.bracket.Bracket.{Bracket}
 use Rattle.search.specs.declared.bracket.Outcome.{Outcome}
 use Rattle.search.specs.declared.bracket.Outcome.TheVariants.{SmallResidual, Narrow, Refused}
 use Rattle.search.specs.declared.bisection.Width.{Width}
 use Rattle.search.specs.declared.bisection.Width.TheVariants.{Millionth, MillionthOfUpper}
-use Rattle.search.specs.declared.bisection.Turn.{Turn}
-use Rattle.search.specs.declared.bisection.Turn.TheVariants.{Done, Next}
 
 -- 1.0e-8: FN_TOLERANCE
 abbrev pub small : Float
@@ -48,24 +49,20 @@ unfoldable pub narrow : (Bracket → Float) → Bracket → Bool
 narrow width b = lt (magnitude (b.x1 ⊖ b.x2)) (width b)
 
 -- the tests once the residual r at the middle is known; n counts that evaluation
-unfoldable pub turn : (Bracket → Float) → Bracket → Float → ℕ → Turn
+unfoldable pub turn : (Bracket → Float) → Bracket → Float → ℕ → ControlFlow Outcome Bracket
 turn width b r n =
     cond (finite r)
-    (cond (lt (magnitude r) small) (Done (SmallResidual (middle_of b) n b))
-    (cond (narrow width b) (Done (Narrow (middle_of b) n b))
-    (Next (step b r))))
-    (Done (Refused 6 nought n b))
-
-abbrev pub turn_go : Turn → Go Outcome Bracket
-turn_go (Done o) = stop o
-turn_go (Next c) = go c
+    (cond (lt (magnitude r) small) (Break (SmallResidual (middle_of b) n b))
+    (cond (narrow width b) (Break (Narrow (middle_of b) n b))
+    (Continue (step b r))))
+    (Break (Refused ResidualNotFinite nought n b))
 
 -- one turn of the loop after n steps, and the outcome at the limit: 8, with the next middle as last point
-unfoldable pub next : (Bracket → Float) → (Float → Float) → Bracket → ℕ → Go Outcome Bracket
-next width f b n = cond (outside b) (stop (Refused 10 nought n b)) (turn_go (turn width b (f (middle_of b)) (n + 1)))
+unfoldable pub next : (Bracket → Float) → (Float → Float) → Bracket → ℕ → ControlFlow Outcome Bracket
+next width f b n = cond (outside b) (Break (Refused PointOutside nought n b)) (turn width b (f (middle_of b)) (n + 1))
 
 unfoldable pub spent : Bracket → ℕ → Outcome
-spent b n = Refused 8 (middle_of b) n b
+spent b n = Refused StepsSpent (middle_of b) n b
 
 unfoldable pub bisection : (Bracket → Float) → (Float → Float) → Bracket → ℕ → Outcome
 bisection width f b limit = run_from (next width f) spent limit b 0

@@ -2,11 +2,14 @@
 use Rattle.std.specs.Prelude.{ℕ, ◌+◌, cond, ◌&&◌, List, map, Float}
 use Rattle.std.specs.Float.Ieee.{neg, lt, le, eq, ne}
 use Rattle.std.specs.Float.Ieee.Scale.{finite}
+use Rattle.std.specs.declared.ops.ControlFlow.{ControlFlow}
+use Rattle.std.specs.declared.ops.ControlFlow.TheVariants.{Continue, Break}
 use Rattle.exact.specs.Operations.{◌⊕◌, ◌⊖◌, ◌⊗◌, ◌⊘◌}
 use Rattle.exact.specs.Middle.{half, middle}
 use Rattle.float.specs.Decimal.{+◌, −◌, number, rounded}
 use Rattle.float.specs.Sign.{nought, magnitude, smaller, sign_taken, same_sign}
-use Rattle.search.specs.Run.{Go, stop, go, run_from, states_from}
+use Rattle.common.specs.declared.cause.Cause.TheVariants.{ResidualNotFinite, StepsSpent, PointOutside}
+use Rattle.search.specs.Run.{run_from, states_from}
 use Rattle.search.specs.Bracket.{ordered, strictly_between}
 use Rattle.search.specs.declared.bracket.Bracket.{Bracket}
 use Rattle.search.specs.declared.brent.Brent.{Brent}
@@ -15,9 +18,6 @@ use Rattle.search.specs.declared.brent.Ratio.{Ratio}
 use Rattle.search.specs.declared.bracket.Outcome.{Outcome}
 use Rattle.search.specs.declared.bracket.Outcome.TheVariants.{SmallResidual, Narrow, Refused}
 use Rattle.search.specs.declared.brent.Aim.{Aim}
-use Rattle.search.specs.declared.brent.Aim.TheVariants.{Stop, At}
-use Rattle.search.specs.declared.brent.BrentTurn.{BrentTurn}
-use Rattle.search.specs.declared.brent.BrentTurn.TheVariants.{Ended, On}
 
 abbrev pub plain : ℕ → Float
 plain d = rounded (number d (+ 0))
@@ -100,38 +100,35 @@ abbrev pub with_lengths : Brent → Lengths → Brent
 with_lengths s l = record { a = s.a; b = s.b; c = s.c; fa = s.fa; fb = s.fb; fc = s.fc; d = l.d; e = l.e }
 
 -- Where a sorted state goes on, after n steps: a zero first, then narrow, then the next point; where that is not strictly between b and c, 0.5·(b + c) with both lengths halved; else 10.
-unfoldable pub aim_sorted : Brent → ℕ → Aim
+unfoldable pub aim_sorted : Brent → ℕ → ControlFlow Outcome Aim
 aim_sorted s n =
-    cond (eq s.fb nought) (Stop (SmallResidual s.b n (bracket_of s)))
-    (cond (le (magnitude (half_width s)) (tolerance s.b)) (Stop (Narrow s.b n (bracket_of s)))
-    (cond (strictly_between (next_point s (lengths s)) s.b s.c) (At (with_lengths s (lengths s)) (next_point s (lengths s)))
-    (cond (strictly_between (middle s.b s.c) s.b s.c) (At (with_lengths s (halved s)) (middle s.b s.c))
-    (Stop (Refused 10 nought n (bracket_of s))))))
+    cond (eq s.fb nought) (Break (SmallResidual s.b n (bracket_of s)))
+    (cond (le (magnitude (half_width s)) (tolerance s.b)) (Break (Narrow s.b n (bracket_of s)))
+    (cond (strictly_between (next_point s (lengths s)) s.b s.c) (Continue (record { state = with_lengths s (lengths s); x = next_point s (lengths s) }))
+    (cond (strictly_between (middle s.b s.c) s.b s.c) (Continue (record { state = with_lengths s (halved s); x = middle s.b s.c }))
+    (Break (Refused PointOutside nought n (bracket_of s))))))
 
-unfoldable pub aim : Brent → ℕ → Aim
+unfoldable pub aim : Brent → ℕ → ControlFlow Outcome Aim
 aim s n = aim_sorted (sorted s) n
 
--- the next state from the residual r at the new point x; n counts that evaluation
-unfoldable pub step : Brent → Float → Float → ℕ → BrentTurn
-step s x r n =
+-- the next state from the residual r at the point that is aimed at; n counts that evaluation
+unfoldable pub step : Aim → Float → ℕ → ControlFlow Outcome Brent
+step t r n =
+    let s = t.state in
     cond (finite r)
-    (On (by_sign (record { a = s.b; b = x; c = s.c; fa = s.fb; fb = r; fc = s.fc; d = s.d; e = s.e })))
-    (Ended (Refused 6 nought n (bracket_of s)))
+    (Continue (by_sign (record { a = s.b; b = t.x; c = s.c; fa = s.fb; fb = r; fc = s.fc; d = s.d; e = s.e })))
+    (Break (Refused ResidualNotFinite nought n (bracket_of s)))
 
-abbrev pub turn_go : BrentTurn → Go Outcome Brent
-turn_go (Ended o) = stop o
-turn_go (On c) = go c
-
-abbrev pub aimed : (Float → Float) → ℕ → Aim → Go Outcome Brent
-aimed f n (Stop o) = stop o
-aimed f n (At t x) = turn_go (step t x (f x) (n + 1))
+abbrev pub aimed : (Float → Float) → ℕ → ControlFlow Outcome Aim → ControlFlow Outcome Brent
+aimed f n (Break o) = Break o
+aimed f n (Continue t) = step t (f t.x) (n + 1)
 
 -- one turn of the loop after n steps, and the outcome at the limit, tested before all this: 8, with the point last evaluated
-unfoldable pub next : (Float → Float) → Brent → ℕ → Go Outcome Brent
+unfoldable pub next : (Float → Float) → Brent → ℕ → ControlFlow Outcome Brent
 next f s n = aimed f n (aim s n)
 
 unfoldable pub spent : Brent → ℕ → Outcome
-spent s n = Refused 8 s.b n (bracket_of s)
+spent s n = Refused StepsSpent s.b n (bracket_of s)
 
 unfoldable pub zbrent : (Float → Float) → Bracket → ℕ → Outcome
 zbrent f w limit = run_from (next f) spent limit (start w) 0

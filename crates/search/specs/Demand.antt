@@ -5,6 +5,8 @@ use Rattle.std.specs.Float.Ieee.{lt, le, eq}
 use Rattle.exact.specs.Value.{unit, in_units, double}
 use Rattle.exact.specs.Rounding.{distance}
 use Rattle.float.specs.Sign.{nought, magnitude}
+use Rattle.common.specs.Causes.{number_of}
+use Rattle.common.specs.declared.cause.Cause.{Cause}
 use Rattle.search.specs.Bisection.{small, width_of}
 use Rattle.search.specs.Brent.{tolerance}
 use Rattle.search.specs.Run.{last, Every}
@@ -56,7 +58,7 @@ abbrev pub reported : Outcome → Bracket
 reported (ExactEnd v b) = b
 reported (SmallResidual v n b) = b
 reported (Narrow v n b) = b
-reported (Refused number v n b) = b
+reported (Refused cause v n b) = b
 
 -- under the limit the last of them is reported, and each of them is under some limit that is no larger
 pub record Told (m : Method) (f : Float → Float) (s : Bracket) (limit : ℕ) : Type 0 where
@@ -78,15 +80,15 @@ pub record Enclosed (f : Float → Float) (s b : Bracket) (v : Float) (near : �
   pub near_upper : distance v b.x2 < near
 
 -- a refusal of the steps: by the table, its bracket inside the start
-abbrev pub Stopped : ℕ → Bracket → Bracket → Type 0
-Stopped number b s = ((number ≡ 6) ⊎ (number ≡ 8) ⊎ (number ≡ 10)) × Within b s
+abbrev pub Stopped : Cause → Bracket → Bracket → Type 0
+Stopped cause b s = ((number_of cause ≡ 6) ⊎ (number_of cause ≡ 8) ⊎ (number_of cause ≡ 10)) × Within b s
 
 -- of a run that starts at s: `Small` of the residual where the reason is a small residual, `near` the distance where it is narrow, from the bracket and the answer
 abbrev pub RunOwes : (Float → Type 0) → (Bracket → Float → ℕ) → (Float → Float) → Bracket → Outcome → Type 0
 RunOwes Small near f s (ExactEnd v b) = ⊥
 RunOwes Small near f s (SmallResidual v n b) = Small (f v) × Lies s b v
 RunOwes Small near f s (Narrow v n b) = Enclosed f s b v (near b v)
-RunOwes Small near f s (Refused number v n b) = Stopped number b s
+RunOwes Small near f s (Refused cause v n b) = Stopped cause b s
 
 -- of a narrow outcome by bisection: its bracket is exactly narrower than a millionth of the whole that its rule names, 1 or the upper end
 abbrev pub whole : Width → Bracket → ℕ
@@ -97,7 +99,7 @@ abbrev pub Part : Width → Outcome → Type 0
 Part rule (ExactEnd v b) = Prim.Unit {0}
 Part rule (SmallResidual v n b) = Prim.Unit {0}
 Part rule (Narrow v n b) = distance b.x1 b.x2 * 1000000 < whole rule b
-Part rule (Refused number v n b) = Prim.Unit {0}
+Part rule (Refused cause v n b) = Prim.Unit {0}
 
 -- by the search: bisection, a residual under 1.0e-8 in magnitude; Brent, a zero
 abbrev pub Small : Method → Float → Type 0
@@ -117,4 +119,4 @@ abbrev pub SearchOwes : Method → (Float → Float) → Bracket → Outcome →
 SearchOwes m f s (ExactEnd v b) = ((v ≡ s.x1) ⊎ (v ≡ s.x2)) × Zero (f v) × (b ≡ s)
 SearchOwes m f s (SmallResidual v n b) = Owes m f s (SmallResidual v n b)
 SearchOwes m f s (Narrow v n b) = Owes m f s (Narrow v n b)
-SearchOwes m f s (Refused number v n b) = (number ≡ 5) ⊎ (number ≡ 7) ⊎ ((number ≡ 6) × (b ≡ s)) ⊎ Owes m f s (Refused number v n b)
+SearchOwes m f s (Refused cause v n b) = (number_of cause ≡ 5) ⊎ (number_of cause ≡ 7) ⊎ ((number_of cause ≡ 6) × (b ≡ s)) ⊎ Owes m f s (Refused cause v n b)

@@ -2,7 +2,11 @@
 use Rattle.std.specs.Prelude.{ℕ, not, ◌&&◌, List, [], ◌∷◌, Float}
 use Rattle.std.specs.Float.Ieee.{lt, eq}
 use Rattle.std.specs.Float.Ieee.Scale.{finite}
+use Rattle.std.specs.declared.ops.ControlFlow.{ControlFlow}
+use Rattle.std.specs.declared.ops.ControlFlow.TheVariants.{Continue, Break}
 use Rattle.float.specs.Sign.{nought, same_sign}
+use Rattle.common.specs.declared.cause.Cause.{Cause}
+use Rattle.common.specs.declared.cause.Cause.TheVariants.{EndsMeet, ResidualNotFinite, SameSign}
 use Rattle.search.specs.Bracket.{no_bracket}
 use Rattle.search.specs.Decision.{Row, ◌⇒◌, decided}
 use Rattle.search.specs.Bisection.{width_of, bisection, bisection_brackets}
@@ -10,40 +14,38 @@ use Rattle.search.specs.Brent.{zbrent, zbrent_brackets}
 use Rattle.search.specs.declared.bracket.Bracket.{Bracket}
 use Rattle.search.specs.declared.bracket.Outcome.{Outcome}
 use Rattle.search.specs.declared.bracket.Outcome.TheVariants.{ExactEnd, Refused}
-use Rattle.search.specs.declared.bracket.Opening.{Opening}
-use Rattle.search.specs.declared.bracket.Opening.TheVariants.{Closed, Open}
 use Rattle.search.specs.declared.method.Method.{Method}
 use Rattle.search.specs.declared.method.Method.TheVariants.{ByBisection, ByBrent}
 
 -- a refusal that has no bracket to report
-abbrev pub refused : ℕ → Outcome
-refused number = Refused number nought 0 no_bracket
+abbrev pub refused : Cause → Outcome
+refused cause = Refused cause nought 0 no_bracket
 
 -- ---- what is decided before the steps
 -- 5: the lower end is not below the upper end
 abbrev pub empty_row : Float → Float → Row Outcome
-empty_row low high = not (lt low high) ⇒ refused 5
+empty_row low high = not (lt low high) ⇒ refused EndsMeet
 
 -- both ends evaluated: 6, a zero at the lower end, a zero at the upper end, 7
 abbrev pub end_rows : Bracket → List (Row Outcome)
 end_rows w =
-    (not (finite w.r1 && finite w.r2) ⇒ Refused 6 nought 0 w)
+    (not (finite w.r1 && finite w.r2) ⇒ Refused ResidualNotFinite nought 0 w)
     ∷ ((eq w.r1 nought ⇒ ExactEnd w.x1 w)
     ∷ ((eq w.r2 nought ⇒ ExactEnd w.x2 w)
-    ∷ ((same_sign w.r1 w.r2 ⇒ refused 7)
+    ∷ ((same_sign w.r1 w.r2 ⇒ refused SameSign)
     ∷ [])))
 
 -- a search is closed by the first of them that holds, or open
-abbrev pub closing : List (Row Outcome) → List (Row Opening)
+abbrev pub closing : List (Row Outcome) → List (Row (ControlFlow Outcome Bracket))
 closing [] = []
-closing ((test ⇒ o) ∷ rows) = (test ⇒ Closed o) ∷ closing rows
+closing ((test ⇒ o) ∷ rows) = (test ⇒ Break o) ∷ closing rows
 
-unfoldable pub opened : Bracket → Opening
-opened w = decided (closing (end_rows w)) (Open w)
+unfoldable pub opened : Bracket → ControlFlow Outcome Bracket
+opened w = decided (closing (end_rows w)) (Continue w)
 
-abbrev pub searched : (Bracket → Outcome) → Opening → Outcome
-searched steps (Closed o) = o
-searched steps (Open b) = steps b
+abbrev pub searched : (Bracket → Outcome) → ControlFlow Outcome Bracket → Outcome
+searched steps (Break o) = o
+searched steps (Continue b) = steps b
 
 -- ---- the steps, by the search that is named, and the brackets that they go through
 unfoldable pub run : Method → (Float → Float) → Bracket → ℕ → Outcome

@@ -3,7 +3,9 @@ ghost use Rattle.std.specs.Prelude.{◌≡◌};
 ghost use Rattle.search.specs.Bisection.{middle_of, outside as outside_of, step as step_of, width_of, narrow as narrow_of, turn as turn_of};
 
 use crate::bracket::{Bracket, Outcome};
+use common::cause::Cause;
 use float::sign::{abs, is_finite, same_sign};
+use std::ops::ControlFlow;
 
 // The narrow rule, a named choice: the width below which a bracket is narrow.
 #[derive(Clone, Copy)]
@@ -14,13 +16,6 @@ pub enum Width {
     MillionthOfUpper,
 }
 
-// What one turn comes to: an end of the search, or the next bracket.
-#[derive(Clone, Copy)]
-pub enum Turn {
-    Done(Outcome),
-    Next(Bracket),
-}
-
 impl Bracket {
     pub fn middle(self) -> f64
         ensures { result ≡ middle_of self }
@@ -29,14 +24,12 @@ impl Bracket {
     }
 
     // Whether the middle lies below x1 or above x2.
+    #[tactic(auto, unfolding(crate::specs::Bisection::outside))]
     pub fn outside(self) -> bool
         ensures { result ≡ outside_of self }
     {
         let m = self.middle();
-        if m < self.x1 {
-            return true;
-        }
-        self.x2 < m
+        m < self.x1 || self.x2 < m
     }
 
     // The end whose residual has the middle's sign is replaced.
@@ -45,18 +38,17 @@ impl Bracket {
     {
         let m = self.middle();
         if same_sign(residual, self.r1) {
-            return Bracket {
+            Bracket {
                 x1: m,
-                x2: self.x2,
                 r1: residual,
-                r2: self.r2,
-            };
-        }
-        Bracket {
-            x1: self.x1,
-            x2: m,
-            r1: self.r1,
-            r2: residual,
+                ..self
+            }
+        } else {
+            Bracket {
+                x2: m,
+                r2: residual,
+                ..self
+            }
         }
     }
 
@@ -71,25 +63,25 @@ impl Bracket {
     }
 
     // Whether the width before the step is below what the rule asks.
+    #[tactic(auto, unfolding(crate::specs::Bisection::narrow))]
     pub fn narrow(self, rule: Width) -> bool
         ensures { result ≡ narrow_of (width_of rule) self }
     {
         abs(self.x1 - self.x2) < self.width(rule)
     }
 
-    // The tests once the residual at the middle is known; `taken` counts that evaluation.
-    pub fn turn(self, rule: Width, residual: f64, taken: u32) -> Turn
+    // The tests once the residual at the middle is known, and the next bracket; `taken` counts that evaluation.
+    pub fn turn(self, rule: Width, residual: f64, taken: u32) -> ControlFlow<Outcome, Bracket>
         ensures { result ≡ turn_of (width_of rule) self residual taken }
     {
         if !is_finite(residual) {
-            return Turn::Done(Outcome::Refused(6, 0.0, taken, self));
+            ControlFlow::Break(Outcome::Refused(Cause::ResidualNotFinite, 0.0, taken, self))
+        } else if abs(residual) < 1.0e-8 {
+            ControlFlow::Break(Outcome::SmallResidual(self.middle(), taken, self))
+        } else if self.narrow(rule) {
+            ControlFlow::Break(Outcome::Narrow(self.middle(), taken, self))
+        } else {
+            ControlFlow::Continue(self.step(residual))
         }
-        if abs(residual) < 1.0e-8 {
-            return Turn::Done(Outcome::SmallResidual(self.middle(), taken, self));
-        }
-        if self.narrow(rule) {
-            return Turn::Done(Outcome::Narrow(self.middle(), taken, self));
-        }
-        Turn::Next(self.step(residual))
     }
 }

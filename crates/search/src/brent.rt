@@ -3,7 +3,9 @@ ghost use Rattle.std.specs.Prelude.{◌≡◌};
 ghost use Rattle.search.specs.Brent.{bracket_of, by_sign, start as start_of, sorted as sorted_of, tolerance as tolerance_of, half_width, ratio as ratio_of, turned as turned_of, halved as halved_of, accepted as accepted_of, lengths as lengths_of, next_point, with_lengths, aim_sorted, aim as aim_of, step as step_of};
 
 use crate::bracket::{Bracket, Outcome, ordered, strictly_between};
+use common::cause::Cause;
 use float::sign::{abs, copysign, is_finite, min, same_sign};
+use std::ops::ControlFlow;
 
 // Three points with their residuals, and the two remembered step lengths. b is the last point; b and c are the bracket.
 #[derive(Clone, Copy)]
@@ -30,17 +32,11 @@ pub struct Ratio {
     pub q: f64,
 }
 
-// Where to evaluate next, or an end of the search.
+// Where to evaluate next, and the state that the residual there is for.
 #[derive(Clone, Copy)]
-pub enum Aim {
-    Stop(Outcome),
-    At(Brent, f64),
-}
-
-#[derive(Clone, Copy)]
-pub enum BrentTurn {
-    Ended(Outcome),
-    On(Brent),
+pub struct Aim {
+    pub state: Brent,
+    pub x: f64,
 }
 
 fn tolerance(b: f64) -> f64
@@ -51,6 +47,7 @@ fn tolerance(b: f64) -> f64
 
 impl Ratio {
     // q with its sign changed where p is above zero.
+    #[tactic(auto, unfolding(crate::specs::Brent::turned))]
     fn turned(self) -> f64
         ensures { result ≡ turned_of self }
     {
@@ -60,6 +57,7 @@ impl Ratio {
 
 impl Brent {
     // The last point and c, as a bracket.
+    #[tactic(auto, unfolding(crate::specs::Brent::bracket_of))]
     pub fn bracket(self) -> Bracket
         ensures { result ≡ bracket_of self }
     {
@@ -71,24 +69,25 @@ impl Brent {
         ensures { result ≡ by_sign self }
     {
         if same_sign(self.fb, self.fc) {
-            return Brent {
-                a: self.a,
-                b: self.b,
+            let d = self.b - self.a;
+            Brent {
                 c: self.a,
-                fa: self.fa,
-                fb: self.fb,
                 fc: self.fa,
-                d: self.b - self.a,
-                e: self.b - self.a,
-            };
+                d,
+                e: d,
+                ..self
+            }
+        } else {
+            self
         }
-        self
     }
 
     // The Rust's literal start: b and c are the upper end.
+    #[tactic(auto, unfolding(crate::specs::Brent::start))]
     pub fn start(w: Bracket) -> Brent
         ensures { result ≡ start_of w }
     {
+        let d = w.x2 - w.x1;
         let s = Brent {
             a: w.x1,
             b: w.x2,
@@ -96,29 +95,30 @@ impl Brent {
             fa: w.r1,
             fb: w.r2,
             fc: w.r2,
-            d: w.x2 - w.x1,
-            e: w.x2 - w.x1,
+            d,
+            e: d,
         };
         s.by_sign()
     }
 
     // b is to be the end with the smaller residual.
+    #[tactic(auto, unfolding(crate::specs::Brent::sorted))]
     fn sorted(self) -> Brent
         ensures { result ≡ sorted_of self }
     {
         if abs(self.fc) < abs(self.fb) {
-            return Brent {
+            Brent {
                 a: self.b,
                 b: self.c,
                 c: self.b,
                 fa: self.fb,
                 fb: self.fc,
                 fc: self.fb,
-                d: self.d,
-                e: self.e,
-            };
+                ..self
+            }
+        } else {
+            self
         }
-        self
     }
 
     fn half_width(self) -> f64
@@ -134,16 +134,17 @@ impl Brent {
         let xm = self.half_width();
         let s = self.fb / self.fa;
         if self.a == self.c {
-            return Ratio {
+            Ratio {
                 p: 2.0 * xm * s,
                 q: 1.0 - s,
-            };
-        }
-        let q = self.fa / self.fc;
-        let r = self.fb / self.fc;
-        Ratio {
-            p: s * (2.0 * xm * q * (q - r) - (self.b - self.a) * (r - 1.0)),
-            q: (q - 1.0) * (r - 1.0) * (s - 1.0),
+            }
+        } else {
+            let q = self.fa / self.fc;
+            let r = self.fb / self.fc;
+            Ratio {
+                p: s * (2.0 * xm * q * (q - r) - (self.b - self.a) * (r - 1.0)),
+                q: (q - 1.0) * (r - 1.0) * (s - 1.0),
+            }
         }
     }
 
@@ -164,96 +165,98 @@ impl Brent {
         let min1 = 3.0 * xm * q - abs(tolerance(self.b) * q);
         let min2 = abs(self.e * q);
         if 2.0 * p < min(min1, min2) {
-            return Lengths {
+            Lengths {
                 d: p / q,
                 e: self.d,
-            };
+            }
+        } else {
+            self.halved()
         }
-        self.halved()
     }
 
+    #[tactic(auto, unfolding(crate::specs::Brent::lengths))]
     fn lengths(self) -> Lengths
         ensures { result ≡ lengths_of self }
     {
         let xm = self.half_width();
-        if abs(xm) < abs(self.e) {
-            if self.fa != self.fb {
-                return self.accepted(self.ratio());
-            }
+        if abs(xm) < abs(self.e) && self.fa != self.fb {
+            self.accepted(self.ratio())
+        } else {
+            self.halved()
         }
-        self.halved()
     }
 
+    #[tactic(auto, unfolding(crate::specs::Brent::next_point))]
     fn next_point(self, l: Lengths) -> f64
         ensures { result ≡ next_point self l }
     {
         let t = tolerance(self.b);
         if t < abs(l.d) {
-            return self.b + l.d;
+            self.b + l.d
+        } else {
+            self.b + copysign(t, self.half_width())
         }
-        self.b + copysign(t, self.half_width())
     }
 
     fn with_lengths(self, l: Lengths) -> Brent
         ensures { result ≡ with_lengths self l }
     {
         Brent {
-            a: self.a,
-            b: self.b,
-            c: self.c,
-            fa: self.fa,
-            fb: self.fb,
-            fc: self.fc,
             d: l.d,
             e: l.e,
+            ..self
         }
     }
 
     // Where a sorted state goes on, after n steps.
-    fn aim_sorted(self, n: u32) -> Aim
+    fn aim_sorted(self, n: u32) -> ControlFlow<Outcome, Aim>
         ensures { result ≡ aim_sorted self n }
     {
         if self.fb == 0.0 {
-            return Aim::Stop(Outcome::SmallResidual(self.b, n, self.bracket()));
+            return ControlFlow::Break(Outcome::SmallResidual(self.b, n, self.bracket()));
         }
         if abs(self.half_width()) <= tolerance(self.b) {
-            return Aim::Stop(Outcome::Narrow(self.b, n, self.bracket()));
+            return ControlFlow::Break(Outcome::Narrow(self.b, n, self.bracket()));
         }
         let l = self.lengths();
         let x = self.next_point(l);
         if strictly_between(x, self.b, self.c) {
-            return Aim::At(self.with_lengths(l), x);
+            let state = self.with_lengths(l);
+            return ControlFlow::Continue(Aim { state, x });
         }
-        let m = exact::middle(self.b, self.c);
-        if strictly_between(m, self.b, self.c) {
-            return Aim::At(self.with_lengths(self.halved()), m);
+        let x = exact::middle(self.b, self.c);
+        if strictly_between(x, self.b, self.c) {
+            let state = self.with_lengths(self.halved());
+            return ControlFlow::Continue(Aim { state, x });
         }
-        Aim::Stop(Outcome::Refused(10, 0.0, n, self.bracket()))
+        ControlFlow::Break(Outcome::Refused(Cause::PointOutside, 0.0, n, self.bracket()))
     }
 
-    pub fn aim(self, n: u32) -> Aim
+    #[tactic(auto, unfolding(crate::specs::Brent::aim))]
+    pub fn aim(self, n: u32) -> ControlFlow<Outcome, Aim>
         ensures { result ≡ aim_of self n }
     {
         self.sorted().aim_sorted(n)
     }
+}
 
-    // The next state from the residual at the new point; `taken` counts that evaluation.
-    pub fn step(self, x: f64, residual: f64, taken: u32) -> BrentTurn
-        ensures { result ≡ step_of self x residual taken }
+impl Aim {
+    // The next state from the residual at x; `taken` counts that evaluation.
+    pub fn step(self, residual: f64, taken: u32) -> ControlFlow<Outcome, Brent>
+        ensures { result ≡ step_of self residual taken }
     {
-        if !is_finite(residual) {
-            return BrentTurn::Ended(Outcome::Refused(6, 0.0, taken, self.bracket()));
+        let s = self.state;
+        if is_finite(residual) {
+            let next = Brent {
+                a: s.b,
+                b: self.x,
+                fa: s.fb,
+                fb: residual,
+                ..s
+            };
+            ControlFlow::Continue(next.by_sign())
+        } else {
+            ControlFlow::Break(Outcome::Refused(Cause::ResidualNotFinite, 0.0, taken, s.bracket()))
         }
-        let s = Brent {
-            a: self.b,
-            b: x,
-            c: self.c,
-            fa: self.fb,
-            fb: residual,
-            fc: self.fc,
-            d: self.d,
-            e: self.e,
-        };
-        BrentTurn::On(s.by_sign())
     }
 }

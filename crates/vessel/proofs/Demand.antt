@@ -10,7 +10,9 @@ use lib.ListN.{take}
 use lib.Ieee.{Float}
 use lib.Ieee.Bits.{is_true}
 use Rattle.exact.specs.Rounding.{distance}
-use Rattle.common.specs.Boundaries.{of_pressures, number_of, inside}
+use Rattle.common.specs.Boundaries.{of_pressures, cause_of, inside}
+use Rattle.common.specs.Causes.{number_of}
+use Rattle.common.specs.declared.cause.Cause.TheVariants.{TemperatureOutOfRange, PressureOutOfRange, ResultNotFinite}
 use Rattle.common.specs.declared.boundaries.Range.{Range}
 use Rattle.search.specs.Decision.{None}
 use Rattle.search.specs.Bisection.{width_of}
@@ -68,11 +70,11 @@ lifted q (Refused k x n b) inside (inr (inl seven)) = inl (inr (inr (inr (inr (i
 lifted q (Refused k x n b) inside (inr (inr (inl (six, same)))) = inr (inl six, inl (ap (λ (w : Bracket). w.x1) same, ap (λ (w : Bracket). w.x2) same))
 lifted q (Refused k x n b) inside (inr (inr (inr (late, h)))) = inr (late, inr (carried q b h))
 
-pub out_of_range : (range : Range) → Early (number_of range)
-unfolding number_of
+pub out_of_range : (range : Range) → Early (number_of (cause_of range))
+unfolding cause_of
 out_of_range range = pick (of_pressures range)
   where
-    pick : (b : Bool) → Early (cond b 3 2)
+    pick : (b : Bool) → Early (number_of (cond b PressureOutOfRange TemperatureOutOfRange))
     pick true = inr (inr (inr (inl refl)))
     pick false = inr (inr (inl refl))
 
@@ -90,7 +92,7 @@ owes q limit =
     Owed : Outcome → Type 0
     Owed o = Owes q (columns (answered (asked q) o (mark q (value_of (outcome q limit)))))
 
-    nine : Owed (refused 9)
+    nine : Owed (refused ResultNotFinite)
     nine = inl (inr (inr (inr (inr (inr (inl refl))))))
 
     searching : None (take 6 (checks q limit)) → Owed last_of

@@ -6,3 +6,4 @@ pub mod EveryCall
 pub mod Residuals
 pub mod Patience
 pub mod Places
+pub mod Refusing

@@ -5,11 +5,13 @@ use mathlib.Core.Logic.{inl, inr}
 use mathlib.Core.Bool.{Bool, true, false, not, cond}
 use mathlib.Core.List.{List, [], ◌∷◌}
 use lib.Ieee.{Float}
+use Rattle.std.specs.Prelude.{Result, Ok, Err}
 use lib.Ieee.Scale.{finite}
-use Rattle.common.specs.Boundaries.{B23_p, B23_T, inside, number_of as boundary_number, found, checked}
+use Rattle.common.specs.Boundaries.{B23_p, B23_T, inside, cause_of, found, checked}
+use Rattle.common.specs.declared.cause.Cause.{Cause}
+use Rattle.common.specs.declared.cause.Cause.TheVariants.{InputNotFinite, ResultNotFinite}
 use Rattle.common.specs.declared.boundaries.Range.{Range}
 use Rattle.common.specs.declared.boundaries.Range.TheVariants.{T4, P4, T23, P23}
-use Rattle.common.specs.declared.boundaries.Boundary.TheVariants.{At, Refused as OutOfRange}
 use Rattle.r4.specs.Saturation.{saturation_pressure as saturation_pressure_formula, saturation_temperature as saturation_temperature_formula}
 use Rattle.search.specs.declared.bracket.Outcome.{Outcome}
 use Rattle.search.specs.declared.bracket.Outcome.TheVariants.{ExactEnd, SmallResidual, Narrow, Refused}
@@ -17,9 +19,9 @@ use Rattle.search.specs.Decision.{Row, ◌⇒◌, decided}
 use Rattle.pairs.specs.Pairs.{steps, start}
 use Rattle.pairs.specs.declared.question.Question.{Question}
 use Rattle.vessel.specs.Asked.{on_line}
-use Rattle.vessel.specs.Answer.{refused, line, answered, value_of}
-use Rattle.vessel.specs.Range.{rule, refusal}
-use Rattle.vessel.specs.Calls.{formula, asks_for, property_checks, property, line_checks, saturation_pressure, saturation_temperature, B23_pressure, B23_temperature}
+use Rattle.vessel.specs.Answer.{refused, direct, answered, value_of}
+use Rattle.vessel.specs.Range.{rule, refusing, check, number, refusal}
+use Rattle.vessel.specs.Calls.{formula, asks_for, property_checks, value, property, line_checks, saturation_pressure, saturation_temperature, B23_pressure, B23_temperature}
 use Rattle.vessel.specs.Searches.{checks, outcome, mark, asked, search as search_of}
 use Rattle.vessel.specs.Table.{Given, Exactly, number_of, number_in}
 use Rattle.vessel.specs.declared.asked.Asked.{Asked}
@@ -57,29 +59,35 @@ unfolding search_of outcome
 search-number q limit n = rw (number_kept (asked q) (outcome q limit) (mark q (value_of (outcome q limit)))) (exactly number_in n (checks q limit) (steps q (start q) limit))
 
 -- the (p,T) rule
-pub rule-number : (region : Region) (p T : Float) (n : ℕ) → Exactly (λ k. k) (refusal region p T) n (rule region p T) 0
-unfolding refusal
-rule-number region p T n = exactly (λ k. k) n (rule region p T) 0
+pub rule-number : (region : Region) (p T : Float) (n : ℕ) → Exactly number (refusal region p T) n (refusing (rule region p T)) (Ok (tt {0}))
+unfolding check
+rule-number region p T n = exactly number n (refusing (rule region p T)) (Ok (tt {0}))
+
+-- a call that does not search: the number in its columns
+direct_kept : (a : Asked) (found : Result Float Cause) → number_of (direct a found) ≡ number found
+unfolding direct
+direct_kept a (Ok x) = refl
+direct_kept a (Err cause) = refl
 
 -- a property: the rule's number, then 9
 pub property_number : (region : Region) (q : Property) (p T : Float) (n : ℕ)
-    → Exactly number_of (number_of (property region q p T)) n (property_checks region q p T) (Value (asks_for region q p T) (formula region q p T))
-unfolding property
-property_number region q p T n = exactly number_of n (property_checks region q p T) (Value (asks_for region q p T) (formula region q p T))
+    → Exactly number (number_of (property region q p T)) n (property_checks region q p T) (Ok (formula region q p T))
+unfolding property value
+property_number region q p T n = rw (direct_kept (asks_for region q p T) (value region q p T)) (exactly number n (property_checks region q p T) (Ok (formula region q p T)))
 
 -- a line: what it answers is its list, decided
-line-decided : (a : Asked) (range : Range) (x result : Float) → line a (checked range x result) ≡ decided (line_checks a range x result) (Value a result)
-unfolding line checked found
+line-decided : (a : Asked) (range : Range) (x result : Float) → direct a (checked range x result) ≡ decided (line_checks a range x result) (Value a result)
+unfolding direct checked found
 line-decided a range x result = by (finite x) (inside range x) (finite result)
   where
-    by : (k l m : Bool) → line a (cond k (cond l (cond m (At result) (OutOfRange 9)) (OutOfRange (boundary_number range))) (OutOfRange 1))
-        ≡ cond (not k) (refused a 1) (cond (not l) (refused a (boundary_number range)) (cond (not m) (refused a 9) (Value a result)))
+    by : (k l m : Bool) → direct a (cond k (cond l (cond m (Ok result) (Err ResultNotFinite)) (Err (cause_of range))) (Err InputNotFinite))
+        ≡ cond (not k) (refused a InputNotFinite) (cond (not l) (refused a (cause_of range)) (cond (not m) (refused a ResultNotFinite) (Value a result)))
     by false l m = refl
     by true false m = refl
     by true true false = refl
     by true true true = refl
 
-line-number : (a : Asked) (range : Range) (x result : Float) (n : ℕ) → Exactly number_of (number_of (line a (checked range x result))) n (line_checks a range x result) (Value a result)
+line-number : (a : Asked) (range : Range) (x result : Float) (n : ℕ) → Exactly number_of (number_of (direct a (checked range x result))) n (line_checks a range x result) (Value a result)
 line-number a range x result n = rw (line-decided a range x result) (exactly number_of n (line_checks a range x result) (Value a result))
 
 pub saturation_pressure-number : (T : Float) (n : ℕ)

@@ -11,7 +11,10 @@ use lib.Dec.{leb, le→leb}
 use lib.ListN.{take, drop}
 use lib.Ieee.{Float}
 use lib.Ieee.Bits.{is_true}
-use Rattle.common.specs.Boundaries.{of_pressures, number_of}
+use Rattle.common.specs.Boundaries.{of_pressures, cause_of}
+use Rattle.common.specs.Causes.{number_of}
+use Rattle.common.specs.declared.cause.Cause.{Cause}
+use Rattle.common.specs.declared.cause.Cause.TheVariants.{TemperatureOutOfRange, PressureOutOfRange}
 use Rattle.common.specs.declared.boundaries.Range.{Range}
 use Rattle.search.specs.Decision.{Row, decided}
 use Rattle.search.specs.Search as search
@@ -91,14 +94,14 @@ module _ (q : Question) where
   searched k a = ap told (allowed k a)
 
   -- their outcomes take no step, and are not 8
-  abbrev NoStep : ℕ → Type 0
-  NoStep number = (outcomes.enough more (refused number) ≡ 0) × (number ≡ 8 → ⊥)
+  abbrev NoStep : Cause → Type 0
+  NoStep cause = (outcomes.enough more (refused cause) ≡ 0) × (number_of cause ≡ 8 → ⊥)
 
-  out_of_range : (range : Range) → NoStep (number_of range)
-  unfolding number_of
+  out_of_range : (range : Range) → NoStep (cause_of range)
+  unfolding cause_of
   out_of_range range = pick (of_pressures range)
     where
-      pick : (b : Bool) → NoStep (cond b 3 2)
+      pick : (b : Bool) → NoStep (cond b PressureOutOfRange TemperatureOutOfRange)
       pick true = (refl, λ e. omega (arith, e))
       pick false = (refl, λ e. omega (arith, e))
 

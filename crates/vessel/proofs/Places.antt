@@ -6,16 +6,16 @@ use mathlib.Core.List.{List, [], ◌∷◌}
 use native.Mathlib.Nat.{le_of_suc-le-suc, not-suc-le-zero, le_of_eq, le_antisymm}
 use native.Mathlib.Numerals.{add-one}
 use lib.Ieee.{Float}
+use Rattle.std.specs.Prelude.{Result, Ok, Err}
+use Rattle.common.specs.declared.cause.Cause.{Cause}
 use Rattle.float.specs.Sign.{nought}
 use lib.ListN.{length, get_or, set}
 use borrow.Author.Tests.{leb-true, eqb-true, le-leb, eq-eqb}
-use Rattle.search.proofs.Searches.{decides}
 use Rattle.pairs.specs.declared.row.Region.{Region}
-use Rattle.vessel.specs.Answer.{Columns, columns}
-use Rattle.vessel.specs.Calls.{formula, asks_for, property_checks, property}
+use Rattle.vessel.specs.Answer.{Columns, columns, direct}
+use Rattle.vessel.specs.Calls.{asks_for, value, property}
 use Rattle.vessel.specs.Log.{Runs, together, fits, column, log, Together, Complete, single_at, HoldsAt, AgreeAt, SameAt}
 use Rattle.vessel.specs.declared.answer.Answer.{Answer}
-use Rattle.vessel.specs.declared.answer.Answer.TheVariants.{Value}
 use Rattle.vessel.specs.declared.property.Property.{Property}
 
 module _ {A : Type 0} (of : Columns → A) (single : Float → Float → Answer) where
@@ -136,8 +136,10 @@ turns_on_its_place region q a b t u k same =
 
 -- a place that is refused holds the value 0
 pub nought_where_refused : (region : Region) (q : Property) (p T : Float) → ((columns (property region q p T)).number ≡ 0 → ⊥) → (columns (property region q p T)).value ≡ nought
-unfolding property
+unfolding property direct
 nought_where_refused region q p T =
-    decides (λ (a : Answer). ((columns a).number ≡ 0 → ⊥) → (columns a).value ≡ nought) (property_checks region q p T) (Value (asks_for region q p T) (formula region q p T))
-    ((λ h n. refl), ((λ h n. refl), tt))
-    (λ h n. absurd (n refl))
+    by (value region q p T)
+  where
+    by : (found : Result Float Cause) → ((columns (direct (asks_for region q p T) found)).number ≡ 0 → ⊥) → (columns (direct (asks_for region q p T) found)).value ≡ nought
+    by (Ok x) n = absurd (n refl)
+    by (Err cause) n = refl

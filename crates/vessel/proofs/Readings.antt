@@ -12,10 +12,11 @@ use Rattle.r4.specs.Saturation.{saturation_pressure}
 use Rattle.r4.specs.Ends.{p_lowest_1, p_most_2}
 use Rattle.search.specs.Bisection.{step}
 use Rattle.search.proofs.Residuals.{unlike}
-use Rattle.vessel.specs.Range.{refusal}
-use Rattle.vessel.specs.Calls.{property}
+use Rattle.vessel.specs.Answer.{direct}
+use Rattle.vessel.specs.Range.{check}
+use Rattle.vessel.specs.Calls.{value, property}
 use Rattle.vessel.specs.Readings.{AllHold, table}
 
 pub readings : AllHold table
-unfolding table whole_power square_root fourth_root rounded same_sign eq mul div step middle add property refusal inside found checked p_lowest_1 p_most_2 saturation_pressure le lt sub of_bits
+unfolding table whole_power square_root fourth_root rounded same_sign eq mul div step middle add property value direct check inside found checked p_lowest_1 p_most_2 saturation_pressure le lt sub of_bits
 readings = (refl, (refl, (refl, (refl, (refl, (refl, (refl, (refl, (refl, (λ r1 r2 r n p. rw (unlike r r1 (inr (p, n))), (refl, (refl, (refl, (refl, (refl, (refl, (refl, (refl, (refl, (refl, (refl, tt)))))))))))))))))))))

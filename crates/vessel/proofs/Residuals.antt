@@ -7,6 +7,9 @@ use lib.Dec.{eqb}
 use lib.Ieee.{Float}
 use lib.Ieee.Scale.{finite}
 use Rattle.float.specs.Sign.{nought}
+use Rattle.common.specs.Causes.{number_of}
+use Rattle.common.specs.declared.cause.Cause.{Cause}
+use Rattle.common.specs.declared.cause.Cause.TheVariants.{InputNotFinite, VolumeNotAboveZero, EndsMeet, ResidualNotFinite, SameSign, ResultNotFinite, LimitTooLarge}
 use Rattle.search.specs.Decision.{None}
 use Rattle.search.specs.Search.{refused, run}
 use Rattle.search.specs.Demand.{Signed, Owes, reported as reported_in}
@@ -25,9 +28,9 @@ use Rattle.vessel.specs.Residuals.{or_nought, Residuals}
 use Rattle.vessel.proofs.Demand.{out_of_range}
 
 -- for 6
-told_by_6 : (r : Float) → residual_told 6 r ≡ or_nought r
+told_by_6 : (cause : Cause) (r : Float) → number_of cause ≡ 6 → residual_told cause r ≡ or_nought r
 unfolding residual_told
-told_by_6 r = by (finite r)
+told_by_6 cause r six = rw six (by (finite r))
   where
     by : (b : Bool) → cond (not b) nought r ≡ cond b r nought
     by true = refl
@@ -44,21 +47,21 @@ module _ (q : Question) (limit : ℕ) where
   of_steps (SmallResidual x n b) k h = (h.lower_at, h.upper_at)
   of_steps (Narrow x n b) k h = (h.lower_at, h.upper_at)
   of_steps (Refused number x n b) (inl six, w) h =
-      inr (inl (six, rw (six, told_by_6 b.r1, told_by_6 b.r2) (ap or_nought h.lower_at, ap or_nought h.upper_at)))
+      inr (inl (six, rw (told_by_6 number b.r1 six, told_by_6 number b.r2 six) (ap or_nought h.lower_at, ap or_nought h.upper_at)))
   of_steps (Refused number x n b) (inr (inl eight), w) h = inr (inr (inl eight, rw eight (h.lower_at, h.upper_at)))
   of_steps (Refused number x n b) (inr (inr ten), w) h = inr (inr (inr ten, rw ten (h.lower_at, h.upper_at)))
 
-  early : (number : ℕ) → Early number → Of (refused number)
+  early : (cause : Cause) → Early (number_of cause) → Of (refused cause)
   unfolding answered residual_told
-  early number h = inl (h, (same (eqb number 6 && not (finite nought)), same (eqb number 6 && not (finite nought))))
+  early cause h = inl (h, (same (eqb (number_of cause) 6 && not (finite nought)), same (eqb (number_of cause) 6 && not (finite nought))))
     where
       same : (b : Bool) → cond b nought nought ≡ nought
       same true = refl
       same false = refl
 
-  six : Of (Refused 6 nought 0 (start q))
+  six : Of (Refused ResidualNotFinite nought 0 (start q))
   unfolding answered
-  six = inr (inl (refl, (told_by_6 (start q).r1, told_by_6 (start q).r2)))
+  six = inr (inl (refl, (told_by_6 ResidualNotFinite (start q).r1 refl, told_by_6 ResidualNotFinite (start q).r2 refl)))
 
   exact : (x : Float) → Of (ExactEnd x (start q))
   unfolding answered
@@ -68,14 +71,14 @@ module _ (q : Question) (limit : ℕ) where
   unfolding search_of outcome steps
   residuals =
       decides Of (checks q limit) last_of
-      ((λ h. early 11 (inl refl)), ((λ h. early 1 (inr (inl refl))), ((λ h. early _ (out_of_range (row_of q).range)), ((λ h. early 4 (inr (inr (inr (inr (inl refl)))))), (nine, (nine, ((λ h. early 5 (inr (inr (inr (inr (inr (inr (inl refl)))))))), ((λ h. six), ((λ h. exact _), ((λ h. exact _), ((λ h. early 7 (inr (inr (inr (inr (inr (inr (inr refl)))))))), tt)))))))))))
+      ((λ h. early LimitTooLarge (inl refl)), ((λ h. early InputNotFinite (inr (inl refl))), ((λ h. early _ (out_of_range (row_of q).range)), ((λ h. early VolumeNotAboveZero (inr (inr (inr (inr (inl refl)))))), (nine, (nine, ((λ h. early EndsMeet (inr (inr (inr (inr (inr (inr (inl refl)))))))), ((λ h. six), ((λ h. exact _), ((λ h. exact _), ((λ h. early SameSign (inr (inr (inr (inr (inr (inr (inr refl)))))))), tt)))))))))))
       searching
     where
       last_of : Outcome
       last_of = run (row_of q).method (residual q) (start q) limit
 
-      nine : {A : Type 0} → A → Of (refused 9)
-      nine h = early 9 (inr (inr (inr (inr (inr (inl refl))))))
+      nine : {A : Type 0} → A → Of (refused ResultNotFinite)
+      nine h = early ResultNotFinite (inr (inr (inr (inr (inr (inl refl))))))
 
       searching : None (checks q limit) → Of last_of
       searching (most, (one, (range, (four, (low, (high, rest)))))) =

@@ -1,10 +1,10 @@
 -- What a call answers, and the columns of each case: document 01's number, value, reason, steps, bracket, mark, and document 02's (§5) residuals of the bracket and what the call is of. All promises
 -- about answers go through `columns`.
-use Rattle.std.specs.Prelude.{ℕ, Bool, cond, not, ◌&&◌, eqb, Float}
+use Rattle.std.specs.Prelude.{ℕ, Bool, cond, not, ◌&&◌, eqb, Result, Ok, Err, Float}
 use Rattle.std.specs.Float.Ieee.Scale.{finite}
 use Rattle.float.specs.Sign.{nought}
-use Rattle.common.specs.declared.boundaries.Boundary.{Boundary}
-use Rattle.common.specs.declared.boundaries.Boundary.TheVariants.{At, Refused as OutOfRange}
+use Rattle.common.specs.Causes.{number_of}
+use Rattle.common.specs.declared.cause.Cause.{Cause}
 use Rattle.search.specs.Bracket.{no_bracket}
 use Rattle.search.specs.declared.bracket.Bracket.{Bracket}
 use Rattle.search.specs.declared.bracket.Outcome.{Outcome}
@@ -15,30 +15,30 @@ use Rattle.vessel.specs.declared.answer.Answer.{Answer}
 use Rattle.vessel.specs.declared.answer.Answer.TheVariants.{Value, ExactEnd, SmallResidual, Narrow, Refused}
 
 -- nos. 1 to 5, 7, 9, 11: value 0, steps 0, bracket 0 and 0, residuals 0 and 0
-abbrev pub refused : Asked → ℕ → Answer
-refused a n = Refused a (record { number = n; value = nought; steps = 0; bracket = no_bracket })
+abbrev pub refused : Asked → Cause → Answer
+refused a cause = Refused a (record { cause = cause; value = nought; steps = 0; bracket = no_bracket })
 
--- what a boundary answers, as an answer
-unfoldable pub line : Asked → Boundary → Answer
-line a (At x) = Value a x
-line a (OutOfRange n) = refused a n
+-- what is found without a search, as an answer
+unfoldable pub direct : Asked → Result Float Cause → Answer
+direct a (Ok x) = Value a x
+direct a (Err cause) = refused a cause
 
 -- ---- an outcome of a search as an answer: its bracket whole, and the mark of the value found
 abbrev pub found_at : Float → ℕ → Bracket → Bool → Found
 found_at x n b mark = record { value = x; steps = n; bracket = b; inside = mark }
 
 -- a refusal's residuals are those of its bracket, but for 6 one that is not finite is given as 0, each end by itself
-unfoldable pub residual_told : ℕ → Float → Float
-residual_told number r = cond (eqb number 6 && not (finite r)) nought r
+unfoldable pub residual_told : Cause → Float → Float
+residual_told cause r = cond (eqb (number_of cause) 6 && not (finite r)) nought r
 
-abbrev pub bracket_told : ℕ → Bracket → Bracket
-bracket_told number b = record { x1 = b.x1; x2 = b.x2; r1 = residual_told number b.r1; r2 = residual_told number b.r2 }
+abbrev pub bracket_told : Cause → Bracket → Bracket
+bracket_told cause b = record { x1 = b.x1; x2 = b.x2; r1 = residual_told cause b.r1; r2 = residual_told cause b.r2 }
 
 unfoldable pub answered : Asked → Outcome → Bool → Answer
 answered a (EndFound x b) mark = ExactEnd a (found_at x 0 b mark)
 answered a (SmallFound x n b) mark = SmallResidual a (found_at x n b mark)
 answered a (NarrowFound x n b) mark = Narrow a (found_at x n b mark)
-answered a (Stopped k x n b) mark = Refused a (record { number = k; value = x; steps = n; bracket = bracket_told k b })
+answered a (Stopped k x n b) mark = Refused a (record { cause = k; value = x; steps = n; bracket = bracket_told k b })
 
 -- the value that an outcome carries
 unfoldable pub value_of : Outcome → Float
@@ -108,7 +108,7 @@ columns (SmallResidual a f) = searched small_residual a f
 columns (Narrow a f) = searched narrow a f
 columns (Refused a r) =
     record {
-      number = r.number;
+      number = number_of r.cause;
       value = r.value;
       reason = none;
       steps = r.steps;

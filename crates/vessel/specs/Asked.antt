@@ -1,29 +1,26 @@
 -- What a call is of (document 02, §5): its kind, the region and the property that it names, and its inputs in its order. Each call makes the record of its own arguments (Answer.antt carries it).
 -- Then the numbers of its columns: region, 0 where the call names none; kind; property, 0 but for (p,T).
-use Rattle.std.specs.Prelude.{ℕ, Float}
+use Rattle.std.specs.Prelude.{ℕ, Float, Option, Some, None}
 use Rattle.float.specs.Sign.{nought}
-use Rattle.pairs.specs.declared.row.Region.TheVariants.{One, Two, Five}
+use Rattle.pairs.specs.Names.{number_of}
+use Rattle.pairs.specs.declared.row.Region.{Region}
 use Rattle.pairs.specs.declared.row.Pair.{Pair}
 use Rattle.pairs.specs.declared.row.Pair.TheVariants.{Pv1, Tv1, Th1, Ts1, Pv2, Tv2, Th2, Ts2, Tv5, Th5, Ts5}
 use Rattle.vessel.specs.declared.property.Property.{Property}
 use Rattle.vessel.specs.declared.property.Property.TheVariants.{Volume, InternalEnergy, Entropy, Enthalpy, Cp, Cv, SpeedOfSound}
 use Rattle.vessel.specs.declared.asked.Kind.{Kind}
 use Rattle.vessel.specs.declared.asked.Kind.TheVariants.{PT, SaturationPressure, SaturationTemperature, B23Pressure, B23Temperature, Pv, Tv, Th, Ts}
-use Rattle.vessel.specs.declared.asked.NamedRegion.{NamedRegion}
-use Rattle.vessel.specs.declared.asked.NamedRegion.TheVariants.{Names as InRegion, Nothing as NoRegion}
-use Rattle.vessel.specs.declared.asked.NamedProperty.{NamedProperty}
-use Rattle.vessel.specs.declared.asked.NamedProperty.TheVariants.{Names as OfProperty, Nothing as NoProperty}
 use Rattle.vessel.specs.declared.asked.Asked.{Asked}
 
 -- ---- the record: a property by (p,T); a coordinate of a line by the other one, which has no region and no second input; a search by a pair
-abbrev pub at_state : NamedRegion → NamedProperty → Float → Float → Asked
+abbrev pub at_state : Option Region → Option Property → Float → Float → Asked
 at_state region property p T = record { kind = PT; region = region; property = property; first = p; second = T }
 
 abbrev pub on_line : Kind → Float → Asked
-on_line kind x = record { kind = kind; region = NoRegion; property = NoProperty; first = x; second = nought }
+on_line kind x = record { kind = kind; region = None; property = None; first = x; second = nought }
 
-abbrev pub of_pair : Kind → NamedRegion → Float → Float → Asked
-of_pair kind region fixed target = record { kind = kind; region = region; property = NoProperty; first = fixed; second = target }
+abbrev pub of_pair : Kind → Option Region → Float → Float → Asked
+of_pair kind region fixed target = record { kind = kind; region = region; property = None; first = fixed; second = target }
 
 -- the kind of the call that a pair belongs to
 abbrev pub kind_of : Pair → Kind
@@ -40,11 +37,9 @@ kind_of Th5 = Th
 kind_of Ts5 = Ts
 
 -- ---- the numbers
-abbrev pub region_number : NamedRegion → ℕ
-region_number (InRegion One) = 1
-region_number (InRegion Two) = 2
-region_number (InRegion Five) = 5
-region_number NoRegion = 0
+abbrev pub region_number : Option Region → ℕ
+region_number (Some region) = number_of region
+region_number None = 0
 
 abbrev pub kind_number : Kind → ℕ
 kind_number PT = 1
@@ -67,6 +62,6 @@ place_of Cp = 5
 place_of Cv = 6
 place_of SpeedOfSound = 7
 
-abbrev pub property_number : NamedProperty → ℕ
-property_number (OfProperty property) = place_of property
-property_number NoProperty = 0
+abbrev pub property_number : Option Property → ℕ
+property_number (Some property) = place_of property
+property_number None = 0

@@ -1,5 +1,5 @@
 -- Every call of the vessel with its arguments, as document 02, §5 reads it: what it asks, written out call by call, and what it answers. proofs/EveryCall.antt is the one theorem that covers all.
-use Rattle.std.specs.Prelude.{ℕ, Float}
+use Rattle.std.specs.Prelude.{ℕ, Float, Some, None}
 use Rattle.float.specs.Sign.{nought}
 use Rattle.pairs.specs.declared.row.Region.{Region}
 use Rattle.pairs.specs.declared.row.Region.TheVariants.{One, Two}
@@ -9,8 +9,6 @@ use Rattle.vessel.specs.declared.pair.PvRegion.{PvRegion}
 use Rattle.vessel.specs.declared.pair.PvRegion.TheVariants.{One as One', Two as Two'}
 use Rattle.vessel.specs.declared.property.Property.{Property}
 use Rattle.vessel.specs.declared.asked.Kind as kind
-use Rattle.vessel.specs.declared.asked.NamedRegion.TheVariants.{Names as InRegion, Nothing as NoRegion}
-use Rattle.vessel.specs.declared.asked.NamedProperty.TheVariants.{Names as OfProperty, Nothing as NoProperty}
 use Rattle.vessel.specs.declared.asked.Asked.{Asked}
 use Rattle.vessel.specs.declared.answer.Answer.{Answer}
 
@@ -32,15 +30,15 @@ region_of One' = One
 region_of Two' = Two
 
 abbrev pub asks : Call → Asked
-asks (pT region property p T) = record { kind = kind.TheVariants.PT; region = InRegion region; property = OfProperty property; first = p; second = T }
-asks (saturation_pressure T) = record { kind = kind.TheVariants.SaturationPressure; region = NoRegion; property = NoProperty; first = T; second = nought }
-asks (saturation_temperature p) = record { kind = kind.TheVariants.SaturationTemperature; region = NoRegion; property = NoProperty; first = p; second = nought }
-asks (B23_pressure T) = record { kind = kind.TheVariants.B23Pressure; region = NoRegion; property = NoProperty; first = T; second = nought }
-asks (B23_temperature p) = record { kind = kind.TheVariants.B23Temperature; region = NoRegion; property = NoProperty; first = p; second = nought }
-asks (pv2T region p v limit) = record { kind = kind.TheVariants.Pv; region = InRegion (region_of region); property = NoProperty; first = p; second = v }
-asks (Tv2p region T v limit) = record { kind = kind.TheVariants.Tv; region = InRegion region; property = NoProperty; first = T; second = v }
-asks (Th2p region T h limit) = record { kind = kind.TheVariants.Th; region = InRegion region; property = NoProperty; first = T; second = h }
-asks (Ts2p region T s limit) = record { kind = kind.TheVariants.Ts; region = InRegion region; property = NoProperty; first = T; second = s }
+asks (pT region property p T) = record { kind = kind.TheVariants.PT; region = Some region; property = Some property; first = p; second = T }
+asks (saturation_pressure T) = record { kind = kind.TheVariants.SaturationPressure; region = None; property = None; first = T; second = nought }
+asks (saturation_temperature p) = record { kind = kind.TheVariants.SaturationTemperature; region = None; property = None; first = p; second = nought }
+asks (B23_pressure T) = record { kind = kind.TheVariants.B23Pressure; region = None; property = None; first = T; second = nought }
+asks (B23_temperature p) = record { kind = kind.TheVariants.B23Temperature; region = None; property = None; first = p; second = nought }
+asks (pv2T region p v limit) = record { kind = kind.TheVariants.Pv; region = Some (region_of region); property = None; first = p; second = v }
+asks (Tv2p region T v limit) = record { kind = kind.TheVariants.Tv; region = Some region; property = None; first = T; second = v }
+asks (Th2p region T h limit) = record { kind = kind.TheVariants.Th; region = Some region; property = None; first = T; second = h }
+asks (Ts2p region T s limit) = record { kind = kind.TheVariants.Ts; region = Some region; property = None; first = T; second = s }
 
 -- the calls that do not search
 abbrev pub NoSearch : Call → Type 0

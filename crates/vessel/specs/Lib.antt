@@ -1,3 +1,4 @@
+pub mod Names
 pub mod Asked
 pub mod Answer
 pub mod Range

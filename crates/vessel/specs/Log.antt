@@ -1,7 +1,9 @@
 -- A whole log at once (document 02, §1): p in one lent run, T in another; one call fills two more with the value and the number of the single call at every place. If the four lengths differ, or exceed
 -- 4,096, nothing is written and 13 comes back.
-use Rattle.std.specs.Prelude.{ℕ, ◌≤◌, ◌<◌, ◌≡◌, Bool, cond, ◌&&◌, List, [], ◌∷◌, eqb, leb, Float, length, get_or}
+use Rattle.std.specs.Prelude.{ℕ, ◌≤◌, ◌<◌, ◌≡◌, Bool, cond, ◌&&◌, List, [], ◌∷◌, eqb, leb, Result, Ok, Err, ⊤, Float, length, get_or}
 use Rattle.float.specs.Sign.{nought}
+use Rattle.common.specs.declared.cause.Cause.{Cause}
+use Rattle.common.specs.declared.cause.Cause.TheVariants.{RunsUnfit}
 use Rattle.vessel.specs.Answer.{Columns, columns}
 use Rattle.vessel.specs.Calls.{property}
 use Rattle.vessel.specs.declared.answer.Answer.{Answer}
@@ -22,7 +24,7 @@ lent p T values numbers = record { p = p; T = T; values = values; numbers = numb
 
 -- what comes back, and the two runs as they are left
 pub record Logged : Type 0 where
-  pub number : ℕ
+  pub back : Result ⊤ Cause
   pub values : List Float
   pub numbers : List ℕ
 
@@ -46,17 +48,17 @@ column of single (p ∷ ps) (T ∷ Ts) = of (columns (single p T)) ∷ column of
 abbrev pub filled : (Float → Float → Answer) → Runs → Logged
 filled single runs =
     record {
-      number = 0;
+      back = Ok tt;
       values = column (λ c. c.value) single runs.p runs.T;
       numbers = column (λ c. c.number) single runs.p runs.T;
     }
 
 -- both runs are what they were
-abbrev pub unwritten : ℕ → Runs → Logged
-unwritten n runs = record { number = n; values = runs.values; numbers = runs.numbers }
+abbrev pub unwritten : Cause → Runs → Logged
+unwritten cause runs = record { back = Err cause; values = runs.values; numbers = runs.numbers }
 
 unfoldable pub log : Region → Property → Runs → Logged
-log region q runs = cond (fits runs) (filled (property region q) runs) (unwritten 13 runs)
+log region q runs = cond (fits runs) (filled (property region q) runs) (unwritten RunsUnfit runs)
 
 -- ---- for an auditor: the test in plain words, and what a log says place by place (proofs/Places.antt)
 pub record Together (runs : Runs) : Type 0 where
@@ -68,7 +70,7 @@ pub record Together (runs : Runs) : Type 0 where
 -- the outcome for every four lengths
 pub record Complete (region : Region) (q : Property) (runs : Runs) : Type 0 where
   pub fills : Together runs → log region q runs ≡ filled (property region q) runs
-  pub leaves : (Together runs → ⊥) → log region q runs ≡ unwritten 13 runs
+  pub leaves : (Together runs → ⊥) → log region q runs ≡ unwritten RunsUnfit runs
 
 -- the single call at place k
 abbrev pub single_at : Region → Property → Runs → ℕ → Columns

@@ -1,9 +1,10 @@
 -- The calls that search: document 01's order of checks as one decision list, 11, 1, 2 or 3, 4, then 9, 5, 6, a zero at the lower end, a zero at the upper end, 7 (`before_steps`), then steps.
-use Rattle.std.specs.Prelude.{ℕ, Bool, not, ◌&&◌, List, ◌∷◌, leb, Float}
+use Rattle.std.specs.Prelude.{ℕ, Bool, not, ◌&&◌, List, ◌∷◌, leb, Float, Some}
 use Rattle.std.specs.Float.Ieee.{lt}
 use Rattle.std.specs.Float.Ieee.Scale.{finite}
 use Rattle.float.specs.Sign.{nought}
 use Rattle.common.specs.Boundaries as boundaries
+use Rattle.common.specs.declared.cause.Cause.TheVariants.{InputNotFinite, VolumeNotAboveZero, LimitTooLarge}
 use Rattle.search.specs.Decision.{Row, ◌⇒◌, decided}
 use Rattle.search.specs.Search.{refused}
 use Rattle.search.specs.declared.bracket.Outcome.{Outcome}
@@ -17,7 +18,6 @@ use Rattle.vessel.specs.Asked.{kind_of, of_pair}
 use Rattle.vessel.specs.Answer.{answered, value_of}
 use Rattle.vessel.specs.Range.{inside}
 use Rattle.vessel.specs.declared.asked.Asked.{Asked}
-use Rattle.vessel.specs.declared.asked.NamedRegion.TheVariants.{Names as InRegion}
 use Rattle.vessel.specs.declared.answer.Answer.{Answer}
 use Rattle.vessel.specs.declared.pair.PvRegion.{PvRegion}
 use Rattle.vessel.specs.declared.pair.PvRegion.TheVariants.{One as One', Two as Two'}
@@ -33,10 +33,10 @@ volume_refused q = (row_of q).volume && not (lt nought q.target)
 -- ---- the decision list; a fixed input out of its range is 2 for a temperature, 3 for a pressure
 abbrev pub checks : Question → ℕ → List (Row Outcome)
 checks q limit =
-    (not (leb limit largest_limit) ⇒ refused 11)
-    ∷ ((not (finite q.fixed && finite q.target) ⇒ refused 1)
-    ∷ ((not (boundaries.inside (row_of q).range q.fixed) ⇒ refused (boundaries.number_of (row_of q).range))
-    ∷ ((volume_refused q ⇒ refused 4)
+    (not (leb limit largest_limit) ⇒ refused LimitTooLarge)
+    ∷ ((not (finite q.fixed && finite q.target) ⇒ refused InputNotFinite)
+    ∷ ((not (boundaries.inside (row_of q).range q.fixed) ⇒ refused (boundaries.cause_of (row_of q).range))
+    ∷ ((volume_refused q ⇒ refused VolumeNotAboveZero)
     ∷ before_steps q)))
 
 unfoldable pub outcome : Question → ℕ → Outcome
@@ -48,7 +48,7 @@ mark q x = inside (row_of q).region (state_of q x).p (state_of q x).T
 
 -- ---- what the call of a question is of: the input that is fixed comes first, as in the call
 unfoldable pub asked : Question → Asked
-asked q = of_pair (kind_of q.pair) (InRegion (row_of q).region) q.fixed q.target
+asked q = of_pair (kind_of q.pair) (Some (row_of q).region) q.fixed q.target
 
 unfoldable pub search : Question → ℕ → Answer
 search q limit = answered (asked q) (outcome q limit) (mark q (value_of (outcome q limit)))

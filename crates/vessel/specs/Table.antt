@@ -1,5 +1,6 @@
 -- "Given exactly when" of document 01's table, over any decision list: a number comes from the first row that holds, or from what follows the list if none does.
 use Rattle.std.specs.Prelude.{ℕ, ◌≡◌, ◌⊎◌, true, false, List, [], ◌∷◌}
+use Rattle.common.specs.Causes as causes
 use Rattle.search.specs.declared.bracket.Outcome.{Outcome}
 use Rattle.search.specs.declared.bracket.Outcome.TheVariants.{ExactEnd, SmallResidual, Narrow, Refused}
 use Rattle.search.specs.Decision.{Row, ◌⇒◌}
@@ -24,4 +25,4 @@ abbrev pub number_in : Outcome → ℕ
 number_in (ExactEnd x b) = 0
 number_in (SmallResidual x n b) = 0
 number_in (Narrow x n b) = 0
-number_in (Refused k x n b) = k
+number_in (Refused k x n b) = causes.number_of k

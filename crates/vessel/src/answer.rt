@@ -1,9 +1,9 @@
-// What a call answers: a value with its reason, or a refusal with its number and bracket, each with what the call is of.
+// What a call answers: a value with its reason, or a refusal with its cause and bracket, each with what the call is of.
 ghost use Rattle.std.specs.Prelude.{◌≡◌};
-ghost use Rattle.vessel.specs.Answer.{refused as refused_of, line as line_of, residual_told, bracket_told, found_at, answered as answered_of, value_of};
+ghost use Rattle.vessel.specs.Answer.{refused as refused_of, direct as direct_of, residual_told, bracket_told, found_at, answered as answered_of, value_of};
 
 use crate::asked::Asked;
-use common::boundaries::Boundary;
+use common::cause::Cause;
 use float::sign::is_finite;
 use search::bracket::{Bracket, Outcome};
 
@@ -16,15 +16,16 @@ pub struct Found {
     pub inside: bool,
 }
 
-// A number of document 01's table, the last point for 8 and else 0, the steps taken and the last bracket.
+// Why, the last point where the steps are spent and else 0, the steps taken and the last bracket.
 #[derive(Clone, Copy)]
 pub struct Refusal {
-    pub number: u32,
+    pub cause: Cause,
     pub value: f64,
     pub steps: u32,
     pub bracket: Bracket,
 }
 
+// It stays an enum of its own: docs/DECISIONS.md, the list of forms by place.
 #[derive(Clone, Copy)]
 pub enum Answer {
     // of a call that does not search
@@ -36,13 +37,13 @@ pub enum Answer {
 }
 
 // A refusal without steps.
-pub fn refused(asked: Asked, number: u32) -> Answer
-    ensures { result ≡ refused_of asked number }
+pub fn refused(asked: Asked, cause: Cause) -> Answer
+    ensures { result ≡ refused_of asked cause }
 {
     Answer::Refused(
         asked,
         Refusal {
-            number,
+            cause,
             value: 0.0,
             steps: 0,
             bracket: Bracket {
@@ -55,25 +56,27 @@ pub fn refused(asked: Asked, number: u32) -> Answer
     )
 }
 
-// What a boundary answers, as an answer.
-pub fn line(asked: Asked, boundary: Boundary) -> Answer
-    ensures { result ≡ line_of asked boundary }
+// What is found without a search, as an answer.
+#[tactic(auto, unfolding(crate::specs::Answer::direct))]
+pub fn direct(asked: Asked, found: Result<f64, Cause>) -> Answer
+    ensures { result ≡ direct_of asked found }
 {
-    match boundary {
-        Boundary::At(x) => Answer::Value(asked, x),
-        Boundary::Refused(n) => refused(asked, n),
+    match found {
+        Ok(x) => Answer::Value(asked, x),
+        Err(cause) => refused(asked, cause),
     }
 }
 
 // The value that an outcome carries.
+#[tactic(auto, unfolding(crate::specs::Answer::value_of))]
 pub fn value(outcome: Outcome) -> f64
     ensures { result ≡ value_of outcome }
 {
     match outcome {
-        Outcome::ExactEnd(x, b) => x,
-        Outcome::SmallResidual(x, n, b) => x,
-        Outcome::Narrow(x, n, b) => x,
-        Outcome::Refused(k, x, n, b) => x,
+        Outcome::ExactEnd(x, _)
+        | Outcome::SmallResidual(x, _, _)
+        | Outcome::Narrow(x, _, _)
+        | Outcome::Refused(_, x, _, _) => x,
     }
 }
 
@@ -88,33 +91,32 @@ fn found_at(value: f64, steps: u32, bracket: Bracket, inside: bool) -> Found
     }
 }
 
-// A residual as a refusal tells it: for 6 one that is not finite is given as 0.
-fn residual_told(number: u32, residual: f64) -> f64
-    ensures { result ≡ residual_told number residual }
+// A residual as a refusal tells it: where one is not finite, it is given as 0.
+#[tactic(auto, unfolding(crate::specs::Answer::residual_told))]
+fn residual_told(cause: Cause, residual: f64) -> f64
+    ensures { result ≡ residual_told cause residual }
 {
-    let other = number != 6;
-    if other {
-        return residual;
+    if cause == Cause::ResidualNotFinite && !is_finite(residual) {
+        0.0
+    } else {
+        residual
     }
-    if is_finite(residual) {
-        return residual;
-    }
-    0.0
 }
 
 // The bracket that a refusal reports.
-fn bracket_told(number: u32, bracket: Bracket) -> Bracket
-    ensures { result ≡ bracket_told number bracket }
+fn bracket_told(cause: Cause, bracket: Bracket) -> Bracket
+    ensures { result ≡ bracket_told cause bracket }
 {
     Bracket {
         x1: bracket.x1,
         x2: bracket.x2,
-        r1: residual_told(number, bracket.r1),
-        r2: residual_told(number, bracket.r2),
+        r1: residual_told(cause, bracket.r1),
+        r2: residual_told(cause, bracket.r2),
     }
 }
 
 // An outcome of a search as an answer, with the mark of its value.
+#[tactic(auto, unfolding(crate::specs::Answer::answered))]
 pub fn answered(asked: Asked, outcome: Outcome, mark: bool) -> Answer
     ensures { result ≡ answered_of asked outcome mark }
 {
@@ -125,7 +127,7 @@ pub fn answered(asked: Asked, outcome: Outcome, mark: bool) -> Answer
         Outcome::Refused(k, x, n, b) => Answer::Refused(
             asked,
             Refusal {
-                number: k,
+                cause: k,
                 value: x,
                 steps: n,
                 bracket: bracket_told(k, b),

@@ -3,9 +3,8 @@ ghost use Rattle.std.specs.Prelude.{◌≡◌};
 ghost use Rattle.vessel.specs.Calls.{property as property_of};
 ghost use Rattle.vessel.specs.Log.{reading_of, together as together_of, lent, log as log_of};
 
-use crate::property::{Property, formula};
-use crate::range::refusal;
-use float::sign::is_finite;
+use crate::property::{Property, value};
+use common::cause::Cause;
 use pairs::row::Region;
 
 // The longest log; a longer one is refused.
@@ -19,23 +18,19 @@ struct Reading {
 }
 
 // What the call by (p,T) gives, without what it is of.
+#[tactic(auto, unfolding(crate::specs::Calls::property, crate::specs::Answer::direct))]
 fn number_and_value(region: Region, property: Property, p: f64, T: f64) -> Reading
     ensures { result ≡ reading_of (property_of region property p T) }
 {
-    let number = refusal(region, p, T);
-    if number != 0 {
-        return Reading { number, value: 0.0 };
-    }
-    let result = formula(region, property, p, T);
-    if !is_finite(result) {
-        return Reading {
-            number: 9,
+    match value(region, property, p, T) {
+        Ok(x) => Reading {
+            number: 0,
+            value: x,
+        },
+        Err(cause) => Reading {
+            number: cause.number(),
             value: 0.0,
-        };
-    }
-    Reading {
-        number: 0,
-        value: result,
+        },
     }
 }
 
@@ -43,20 +38,10 @@ fn number_and_value(region: Region, property: Property, p: f64, T: f64) -> Readi
 fn together(p: usize, T: usize, values: usize, numbers: usize) -> bool
     ensures { result ≡ together_of p T values numbers }
 {
-    if p > LONGEST_LOG {
-        return false;
-    }
-    if T != p {
-        return false;
-    }
-    let other = values != p;
-    if other {
-        return false;
-    }
-    numbers == p
+    p <= LONGEST_LOG && [T, values, numbers] == [p; 3]
 }
 
-// A property of the named region at every (p,T) of a log. 0 comes back where the runs are filled; 13, and nothing is written, where their lengths differ or exceed the longest log's.
+// A property of the named region at every (p,T) of a log. Where the lengths of the runs differ or exceed the longest log's, nothing is written.
 pub fn pT_log(
     region: Region,
     property: Property,
@@ -64,20 +49,19 @@ pub fn pT_log(
     T: &[f64],
     values: &mut [f64],
     numbers: &mut [u32],
-) -> u32
-    ensures value { result ≡ (log_of region property (lent p.now T.now values.old numbers.old)).number }
+) -> Result<(), Cause>
+    ensures value { result ≡ (log_of region property (lent p.now T.now values.old numbers.old)).back }
     ensures values_after { values.new ≡ (log_of region property (lent p.now T.now values.old numbers.old)).values }
     ensures numbers_after { numbers.new ≡ (log_of region property (lent p.now T.now values.old numbers.old)).numbers }
 {
     if !together(p.len(), T.len(), values.len(), numbers.len()) {
-        return 13;
+        return Err(Cause::RunsUnfit);
     }
-    let mut place = 0;
-    while place < p.len() {
+    // By place: nothing is known of what a loop over a zip of `iter_mut` wrote.
+    for place in 0..p.len() {
         let reading = number_and_value(region, property, p[place], T[place]);
         values[place] = reading.value;
         numbers[place] = reading.number;
-        place += 1;
     }
-    0
+    Ok(())
 }

@@ -1,13 +1,14 @@
 // The calls that search: (p,v) to T, and (T,v), (T,h), (T,s) to p, each with the region named and a step limit.
-ghost use Rattle.std.specs.Prelude.{◌≡◌, ◌&&◌};
-ghost use Rattle.std.specs.Float.Ieee.Scale.{finite};
+ghost use Rattle.std.specs.Prelude.{◌≡◌, ok_or};
+ghost use Rattle.common.specs.declared.cause.Cause.TheVariants.{NamesNothing};
 ghost use Rattle.pairs.specs.Pairs.{asks};
+ghost use Rattle.vessel.specs.Names.{pv_region_named};
 ghost use Rattle.vessel.specs.Searches.{volume_refused, outcome as outcome_of, mark as mark_of, asked as asked_of, search as search_of, pv2T as pv2Tof, Tv2p as Tv2p_of, Th2p as Th2p_of, Ts2p as Ts2p_of};
 
 use crate::answer::{Answer, answered, value};
-use crate::asked::{Asked, NamedRegion, kind_of, of_pair};
+use crate::asked::{Asked, kind_of, of_pair};
 use crate::range::inside;
-use common::boundaries::{inside as in_range, number};
+use common::cause::Cause;
 use float::sign::is_finite;
 use pairs::pair::pair as search_pair;
 use pairs::question::Question;
@@ -27,54 +28,57 @@ pub enum PvRegion {
     Two,
 }
 
-fn both_finite(a: f64, b: f64) -> bool
-    ensures { result ≡ finite a && finite b }
-{
-    if is_finite(a) {
-        return is_finite(b);
+impl TryFrom<u32> for PvRegion {
+    type Error = Cause;
+
+    ghost try_from_gives = { λ number r. r ≡ ok_or (pv_region_named number) NamesNothing };
+
+    #[tactic(auto, unfolding(crate::specs::Names::pv_region_named))]
+    fn try_from(number: u32) -> Result<Self, Cause> {
+        match number {
+            1 => Ok(PvRegion::One),
+            2 => Ok(PvRegion::Two),
+            _ => Err(Cause::NamesNothing),
+        }
     }
-    false
 }
 
 // Whether the target is a volume that is not above zero.
+#[tactic(auto, unfolding(crate::specs::Searches::volume_refused, float::specs::Decimal::rounded))]
 fn volume_refused(question: Question) -> bool
     ensures { result ≡ volume_refused question }
 {
-    let pair = question.pair;
-    if pair.of_volume() {
-        return !(0.0 < question.target);
-    }
-    false
+    question.pair.of_volume() && !(0.0 < question.target)
 }
 
 // The outcome of a search: 11, 1, 2 or 3, 4, then what the pair decides.
+#[tactic(auto, unfolding(crate::specs::Searches::outcome, pairs::specs::Pairs::pair))]
 fn outcome(question: Question, limit: u32) -> Outcome
     ensures { result ≡ outcome_of question limit }
 {
     if limit > LARGEST_STEP_LIMIT {
-        return refused(11);
+        return refused(Cause::LimitTooLarge);
     }
-    if !both_finite(question.fixed, question.target) {
-        return refused(1);
+    if !(is_finite(question.fixed) && is_finite(question.target)) {
+        return refused(Cause::InputNotFinite);
     }
-    let pair = question.pair;
-    let range = pair.range();
-    if !in_range(range, question.fixed) {
-        return refused(number(range));
+    let range = question.pair.range();
+    if !range.contains(question.fixed) {
+        return refused(range.cause());
     }
     if volume_refused(question) {
-        return refused(4);
+        return refused(Cause::VolumeNotAboveZero);
     }
-    search_pair(pair, question.fixed, question.target, limit)
+    search_pair(question.pair, question.fixed, question.target, limit)
 }
 
 // The mark of a found x: a pressure with its T, a temperature with its p.
+#[tactic(auto, unfolding(crate::specs::Searches::mark))]
 fn mark(question: Question, x: f64) -> bool
     ensures { result ≡ mark_of question x }
 {
-    let pair = question.pair;
     let state = question.state(x);
-    inside(pair.region(), state.p, state.T)
+    inside(question.pair.region(), state.p, state.T)
 }
 
 // What the call of a question is of.
@@ -82,11 +86,12 @@ fn asked(question: Question) -> Asked
     ensures { result ≡ asked_of question }
 {
     let pair = question.pair;
-    let region = NamedRegion::Names(pair.region());
+    let region = Some(pair.region());
     of_pair(kind_of(pair), region, question.fixed, question.target)
 }
 
 // A search with its mark.
+#[tactic(auto, unfolding(crate::specs::Searches::search))]
 fn search(pair: Pair, fixed: f64, target: f64, limit: u32) -> Answer
     ensures { result ≡ search_of (asks pair fixed target) limit }
 {
@@ -109,7 +114,7 @@ pub fn pv2T(region: PvRegion, p: f64, v: f64, limit: u32) -> Answer
     }
 }
 
-// (T,v) to p.
+// (T,v) to p. This call and the two below differ in their pairs alone: each names its own, since one function over a table of pairs is no plainer.
 pub fn Tv2p(region: Region, T: f64, v: f64, limit: u32) -> Answer
     ensures { result ≡ Tv2p_of region T v limit }
 {

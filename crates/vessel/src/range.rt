@@ -1,71 +1,70 @@
 // The (p,T) rule: where each region begins and stops.
-ghost use Rattle.std.specs.Prelude.{◌≡◌};
+ghost use Rattle.std.specs.Prelude.{◌≡◌, cond, Ok, Err};
+ghost use Rattle.common.specs.Boundaries.{inside as inside_range, cause_of};
 ghost use Rattle.search.specs.Decision.{decided};
-ghost use Rattle.vessel.specs.Range.{limits, refusal as refusal_of, inside as inside_of};
+ghost use Rattle.vessel.specs.Range.{limits, refusing, check as check_of, inside as inside_of};
 
-use common::boundaries::{Range, inside as in_range};
+use common::boundaries::Range;
+use common::cause::Cause;
 use common::constant::P_MAX;
 use float::sign::is_finite;
 use pairs::row::Region;
-use r4::ends::{Beside, End, T2pmax_reg2, beside_pmin_reg1};
+use r4::ends::{T2pmax_reg2, beside_pmin_reg1};
 
-fn limits_1(p: f64, T: f64) -> u32
-    ensures { result ≡ decided (limits Region.One p T) 0 }
+// Refuses an x that lies outside a range.
+fn within(range: Range, x: f64) -> Result<(), Cause>
+    ensures { result ≡ cond (inside_range range x) (Ok tt) (Err (cause_of range)) }
 {
-    if !in_range(Range::T1, T) {
-        return 2;
+    if range.contains(x) {
+        Ok(())
+    } else {
+        Err(range.cause())
     }
+}
+
+#[tactic(auto, unfolding(common::specs::Boundaries::cause_of))]
+fn limits_1(p: f64, T: f64) -> Result<(), Cause>
+    ensures { result ≡ decided (refusing (limits Region.One p T)) (Ok tt) }
+{
+    within(Range::T1, T)?;
     if P_MAX < p {
-        return 3;
+        return Err(Cause::PressureOutOfRange);
     }
-    let lies = beside_pmin_reg1(p, T);
-    match lies {
-        Beside::NoEnd => 9,
-        Beside::Below => 3,
-        Beside::NotBelow => 0,
+    match beside_pmin_reg1(p, T) {
+        None => Err(Cause::ResultNotFinite),
+        Some(true) => Err(Cause::PressureOutOfRange),
+        Some(false) => Ok(()),
     }
 }
 
-fn limits_2(p: f64, T: f64) -> u32
-    ensures { result ≡ decided (limits Region.Two p T) 0 }
+#[tactic(auto, unfolding(common::specs::Boundaries::cause_of))]
+fn limits_2(p: f64, T: f64) -> Result<(), Cause>
+    ensures { result ≡ decided (refusing (limits Region.Two p T)) (Ok tt) }
 {
-    if !in_range(Range::T2, T) {
-        return 2;
+    within(Range::T2, T)?;
+    within(Range::P2, p)?;
+    match T2pmax_reg2(T) {
+        None => Err(Cause::ResultNotFinite),
+        Some(most) if most < p => Err(Cause::PressureOutOfRange),
+        Some(_) => Ok(()),
     }
-    if !in_range(Range::P2, p) {
-        return 3;
-    }
-    let highest = T2pmax_reg2(T);
-    let End::At(most) = highest else {
-        return 9;
-    };
-    if most < p {
-        return 3;
-    }
-    0
 }
 
-fn limits_5(p: f64, T: f64) -> u32
-    ensures { result ≡ decided (limits Region.Five p T) 0 }
+#[tactic(auto, unfolding(common::specs::Boundaries::cause_of))]
+fn limits_5(p: f64, T: f64) -> Result<(), Cause>
+    ensures { result ≡ decided (refusing (limits Region.Five p T)) (Ok tt) }
 {
-    if !in_range(Range::T5, T) {
-        return 2;
-    }
-    if !in_range(Range::P5, p) {
-        return 3;
-    }
-    0
+    within(Range::T5, T)?;
+    within(Range::P5, p)
 }
 
-// The number by which the rule refuses (p,T), or 0.
-pub fn refusal(region: Region, p: f64, T: f64) -> u32
-    ensures { result ≡ refusal_of region p T }
+// Refuses a (p,T) that the rule does not let in.
+#[tactic(auto, unfolding(crate::specs::Range::check))]
+pub fn check(region: Region, p: f64, T: f64) -> Result<(), Cause>
+    ensures { result ≡ check_of region p T }
 {
-    if !is_finite(p) {
-        return 1;
-    }
-    if !is_finite(T) {
-        return 1;
+    if !(is_finite(p) && is_finite(T)) {
+        return Err(Cause::InputNotFinite);
     }
     match region {
         Region::One => limits_1(p, T),
@@ -75,8 +74,9 @@ pub fn refusal(region: Region, p: f64, T: f64) -> u32
 }
 
 // The mark: whether the rule has (p,T) inside.
+#[tactic(auto, unfolding(crate::specs::Range::inside))]
 pub fn inside(region: Region, p: f64, T: f64) -> bool
     ensures { result ≡ inside_of region p T }
 {
-    refusal(region, p, T) == 0
+    check(region, p, T).is_ok()
 }

@@ -1,57 +1,39 @@
-use Prim.Native.Nat.{◌+◌, ◌*◌, ◌^◌, ◌≤◌, ◌<◌}
-use mathlib.Core.Path.{refl, sym, ◌∙◌}
-use native.Mathlib.Nat.{lt_of_lt_of_le, pow-le-pow_right}
+use mathlib.Core.Path.{◌≡◌, sym, ◌∙◌}
 use native.Mathlib.Omega.{arith}
-use borrow.Author.Tests.{lt-ltb, le-ltb}
-use lib.Dec.{lit<}
+use borrow.Author.Tests.{le-ltb}
 use lib.ListN.{get_or, drop_of_length-le}
-use Rattle.digits.specs.Digits.{number_from, number_of}
-use Rattle.digits.proofs.Reading.{stops, goes_on, larger, small}
+use Rattle.std.specs.Prelude.{Some}
+use Rattle.digits.specs.Digits.{digit_of, number_from}
+use Rattle.digits.proofs.Reading.{digit_small, stops, goes_on, larger, room}
 use Rattle.digits.proofs.number_of.Goals as goal
-use Rattle.digits.proofs.number_of.Goals.{Else-d-eq16}
+use Rattle.digits.proofs.number_of.Goals.{In_ok-n}
 
--- the number with one digit more
-next : (c : Else-d-eq16) → c.loop-i.n * 16 + c.digit-d.result < 16 ^ (c.loop-i.i + 1)
-next c =
-    let b = get_or c.args.digits.now c.loop-i.i 0 in
-    larger c.loop-i.n c.digit-d.result c.loop-i.i c.loop-i.invariant.1
-    (rw c.digit-d.ensures (small b (λ e. c.if-d-eq16.false (c.digit-d.ensures ∙ e))))
-
-fits : (c : Else-d-eq16) → c.loop-i.n * 16 + c.digit-d.result < 16 ^ 16
-fits c =
-    let most : c.loop-i.i + 1 ≤ 16 = omega arith in
-    lt_of_lt_of_le (next c) (pow-le-pow_right (lit< tt) most)
-
-pub returns-then-digits-gt16 : goal.returns-then-digits-gt16
-unfolding number_of
-returns-then-digits-gt16 c = rw (lt-ltb _ _ c.if-digits-gt16.true)
-
-pub loop-i-init : goal.loop-i-init
-loop-i-init c = (omega arith, omega arith, refl)
-
-pub returns-then-d-eq16 : goal.returns-then-d-eq16
-unfolding number_of
-returns-then-d-eq16 c =
-    let bs = c.args.digits.now in
-    rw (le-ltb _ _ c.if-digits-gt16.false)
-    (stops bs c.loop-i.n c.loop-i.i c.loop-i-test.true (sym c.digit-d.ensures ∙ c.if-d-eq16.true) ∙ c.loop-i.invariant.2)
+-- the digit that the loop is at
+digit_is : (c : In_ok-n) → digit_of (get_or c.args.digits.now c.loop-byte.byte-index 0) ≡ Some c.in_ok-n.field-0
+digit_is c = sym c.digit.ensures ∙ c.in_ok-n.was
 
 pub overflow_mul-n : goal.overflow_mul-n
-overflow_mul-n c = omega (arith, fits (goal.at.overflow_mul-n c).Else-d-eq16)
+overflow_mul-n c = let r = room _ _ c.loop-byte.invariant.below (omega arith) in omega arith
+
+pub returns-in_err-n : goal.returns-in_err-n
+returns-in_err-n c =
+    rw (c.from_residual.ensures, le-ltb _ _ c.if-digits-gt16.false)
+    (stops c.args.digits.now c.loop-byte.n c.loop-byte.byte-index (omega arith) (sym c.digit.ensures ∙ c.in_err-n.was) ∙ c.loop-byte.invariant.same)
 
 pub overflow_add-n : goal.overflow_add-n
-overflow_add-n c = omega (arith, fits (goal.at.overflow_add-n c).Else-d-eq16)
+overflow_add-n c =
+    let r = room _ _ c.loop-byte.invariant.below (omega arith) in
+    let d = digit_small (get_or c.args.digits.now c.loop-byte.byte-index 0) _ (digit_is c) in
+    omega arith
 
-pub loop-i-preserved : goal.loop-i-preserved
-loop-i-preserved c =
-    let bs = c.args.digits.now in (
-      omega arith,
-      next (goal.at.loop-i-preserved c).Else-d-eq16,
-      rw c.digit-d.ensures
-          (goes_on bs c.loop-i.n c.loop-i.i c.loop-i-test.true (λ e. c.if-d-eq16.false (c.digit-d.ensures ∙ e)) ∙ c.loop-i.invariant.2),
-    )
+pub loop-byte-preserved : goal.loop-byte-preserved
+loop-byte-preserved c =
+    let bs = c.args.digits.now in
+    record {
+      below = larger _ _ _ c.loop-byte.invariant.below (digit_small (get_or bs c.loop-byte.byte-index 0) _ (digit_is c));
+      same = goes_on bs c.loop-byte.n c.loop-byte.byte-index (omega arith) _ (digit_is c) ∙ c.loop-byte.invariant.same;
+    }
 
 pub returns : goal.returns
-unfolding number_of number_from
-returns c =
-    rw (le-ltb _ _ c.if-digits-gt16.false) (rw (drop_of_length-le c.args.digits.now c.loop-i-test.false) at c.loop-i.invariant.2)
+unfolding number_from
+returns c = rw (le-ltb _ _ c.if-digits-gt16.false) (rw (drop_of_length-le c.args.digits.now c.loop-byte-test.false) at c.loop-byte.invariant.same)

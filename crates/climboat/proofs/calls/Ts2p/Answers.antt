@@ -1,11 +1,8 @@
--- `climboat::calls::Ts2p` meets its contract: its number is taken apart, and one that names nothing leaves at once. Assumes nothing.
+-- `climboat::calls::Ts2p` meets its contract: the refusal that an edit turns is written out. Assumes nothing.
 use Rattle.climboat.specs.Calls.{Ts2p, in_region}
+use Rattle.climboat.proofs.Names.{names_nothing}
 use Rattle.climboat.proofs.calls.Ts2p.Goals as goal
 
 pub returns-in_default : goal.returns-in_default
 unfolding Ts2p in_region
-returns-in_default c = rw (← c.region.ensures, c.in_default.is, ← c.of_pair.ensures) c.refused.ensures
-
-pub returns : goal.returns
-unfolding Ts2p in_region
-returns c = rw (← c.region.ensures, c.in-Names.is) c.Ts2p.ensures
+returns-in_default c = rw (names_nothing _ c.try_from.ensures c.in_default.is) (rw c.of_pair.ensures at c.refused.ensures)

@@ -1,18 +1,9 @@
--- `climboat::calls::pT_log` meets its contract: the names, then the vessel's log. Assumes nothing.
+-- `climboat::calls::pT_log` meets its contract: the refusal that an edit turns, of no region, is written out. Assumes nothing.
 use mathlib.Core.Path.{refl}
-use Rattle.climboat.specs.Calls.{named_log, pT_log}
+use Rattle.climboat.specs.Calls.{pT_log, named_log}
+use Rattle.climboat.proofs.Names.{names_nothing}
 use Rattle.climboat.proofs.calls.pT_log.Goals as goal
 
-pub returns-in_default : goal.returns-in_default
+pub returns-in_default-2 : goal.returns-in_default-2
 unfolding pT_log named_log
-returns-in_default c = rw (← c.region.ensures, c.in_default.is) (record { value = refl; values_after = refl; numbers_after = refl })
-
-pub returns-in_default-property : goal.returns-in_default-property
-unfolding pT_log named_log
-returns-in_default-property c =
-    rw (← c.region.ensures, ← c.property.ensures, c.in-Names.is, c.in_default-property.is) (record { value = refl; values_after = refl; numbers_after = refl })
-
-pub returns : goal.returns
-unfolding pT_log named_log
-returns c =
-    rw (← c.region.ensures, ← c.property.ensures, c.in-Names.is, c.in-Names-property.is) c.pT_log.ensures
+returns-in_default-2 c = rw (names_nothing _ c.try_from.ensures c.in_default.is-0) (record { value = refl; values_after = refl; numbers_after = refl })

@@ -1,11 +1,7 @@
--- `climboat::record::mark` meets its contract. Assumes nothing.
+-- `climboat::record::mark` meets its contract: the return that an edit turns is written out. Assumes nothing.
 use Rattle.climboat.specs.Record.{mark_number}
 use Rattle.climboat.proofs.record.mark.Goals as goal
 
-pub returns-then-inside : goal.returns-then-inside
+pub returns-else-inside : goal.returns-else-inside
 unfolding mark_number
-returns-then-inside c = rw c.if-inside.true
-
-pub returns : goal.returns
-unfolding mark_number
-returns c = rw c.if-inside.false
+returns-else-inside c = rw c.if-inside.false

@@ -19,12 +19,6 @@ overflow_add-s-in-loop-j c =
     let z = c.args.z in
     omega (arith, more k.j z k.s k.t (k.j + 1) k.invariant.4 k.invariant.3, upto k.j z (omega arith))
 
-pub overflow_add-j : goal.overflow_add-j
-overflow_add-j c = omega arith
-
-pub loop-j-smaller : goal.loop-j-smaller
-loop-j-smaller c = omega arith
-
 pub loop-j-preserved : goal.loop-j-preserved
 loop-j-preserved c =
     let k = c.loop-j in

@@ -11,7 +11,7 @@ use Rattle.float.specs.Log.{least, most, of_parts, of_row, difference, fallen, r
 use Rattle.float.proofs.LogRange.{not_nan, Inside, inside, ln_in, ln_low, ln_high}
 use Rattle.float.proofs.LogRows.{Lacks, lacks}
 use Rattle.float.proofs.log.ln.Goals as goal
-use Rattle.float.proofs.log.ln.Goals.{After-monus, After-monus-then-x-2, After-row-c, Start, Then-x-2}
+use Rattle.float.proofs.log.ln.Goals.{After-saturating_sub, After-saturating_sub-then-x-2, After-row-c, Start, Then-x-2}
 
 is_T : (b : Bool) → b ≡ true → T b
 is_T b e = subst T (sym e) tt
@@ -49,26 +49,26 @@ pub fallen-s-requires : goal.fallen-s-requires
 fallen-s-requires c = omega (arith, (lacks-of (goal.at.fallen-s-requires c).After-row-c).small)
 
 -- the exponent's field, above 1023 and under 1023
-up_of : (c : After-monus) → c.monus.result ≤ 6
-up_of c = let i = in-of c.before.before.before in omega (arith, c.monus.ensures, i.of.field, i.high)
+up_of : (c : After-saturating_sub) → c.saturating_sub.result ≤ 6
+up_of c = let i = in-of c.before.before.before in omega (arith, c.saturating_sub.ensures, i.of.field, i.high)
 
-down-of : (c : After-monus-then-x-2) → c.monus-then-x-2.result ≤ 27
-down-of c = let i = in-of c.before.before.before.before in omega (arith, c.monus-then-x-2.ensures, i.of.field, i.low)
+down-of : (c : After-saturating_sub-then-x-2) → c.saturating_sub-then-x-2.result ≤ 27
+down-of c = let i = in-of c.before.before.before.before in omega (arith, c.saturating_sub-then-x-2.ensures, i.of.field, i.low)
 
-pub overflow_mul-monus : goal.overflow_mul-monus
-overflow_mul-monus c = omega (arith, up_of (goal.at.overflow_mul-monus c).After-monus)
+pub overflow_mul-saturating_sub : goal.overflow_mul-saturating_sub
+overflow_mul-saturating_sub c = omega (arith, up_of (goal.at.overflow_mul-saturating_sub c).After-saturating_sub)
 
 pub overflow_add-c : goal.overflow_add-c
-overflow_add-c c = omega (arith, up_of (goal.at.overflow_add-c c).After-monus)
+overflow_add-c c = omega (arith, up_of (goal.at.overflow_add-c c).After-saturating_sub)
 
-pub overflow_mul-monus-then-x-2 : goal.overflow_mul-monus-then-x-2
-overflow_mul-monus-then-x-2 c = omega (arith, down-of (goal.at.overflow_mul-monus-then-x-2 c).After-monus-then-x-2)
+pub overflow_mul-saturating_sub-then-x-2 : goal.overflow_mul-saturating_sub-then-x-2
+overflow_mul-saturating_sub-then-x-2 c = omega (arith, down-of (goal.at.overflow_mul-saturating_sub-then-x-2 c).After-saturating_sub-then-x-2)
 
 pub overflow_add-s : goal.overflow_add-s
-overflow_add-s c = omega (arith, down-of (goal.at.overflow_add-s c).After-monus-then-x-2)
+overflow_add-s c = omega (arith, down-of (goal.at.overflow_add-s c).After-saturating_sub-then-x-2)
 
 pub difference-requires : goal.difference-requires
-difference-requires c = (omega (arith, up_of (goal.at.difference-requires c).After-monus), omega (arith, down-of (goal.at.difference-requires c).After-monus-then-x-2))
+difference-requires c = (omega (arith, up_of (goal.at.difference-requires c).After-saturating_sub), omega (arith, down-of (goal.at.difference-requires c).After-saturating_sub-then-x-2))
 
 pub returns-then-x-2 : goal.returns-then-x-2
 unfolding of_parts of_row
@@ -78,8 +78,8 @@ returns-then-x-2 c =
     let t = to_bits binary64 x % 2 ^ 52 in
     let k = reciprocal (t / 2 ^ 46) in
     c.difference.ensures
-    ∙ ap (λ (n : ℕ). difference (c.row-c.result % 2 ^ 56 + n * ln2) (c.fallen-s.result / 2 ^ 8 + c.monus-then-x-2.result * ln2)) c.monus.ensures
-    ∙ ap (λ (n : ℕ). difference (c.row-c.result % 2 ^ 56 + (e - 1023) * ln2) (c.fallen-s.result / 2 ^ 8 + n * ln2)) c.monus-then-x-2.ensures
+    ∙ ap (λ (n : ℕ). difference (c.row-c.result % 2 ^ 56 + n * ln2) (c.fallen-s.result / 2 ^ 8 + c.saturating_sub-then-x-2.result * ln2)) c.saturating_sub.ensures
+    ∙ ap (λ (n : ℕ). difference (c.row-c.result % 2 ^ 56 + (e - 1023) * ln2) (c.fallen-s.result / 2 ^ 8 + n * ln2)) c.saturating_sub-then-x-2.ensures
     ∙ ap (λ (n : ℕ). difference (n + (e - 1023) * ln2) (c.fallen-s.result / 2 ^ 8 + (1023 - e) * ln2)) c.row-c.ensures.1
     ∙ ap (λ (n : ℕ). difference (minus_log k + (e - 1023) * ln2) (n / 2 ^ 8 + (1023 - e) * ln2)) (c.fallen-s.ensures ∙ ap (λ (r : ℕ). fallen ((2 ^ 60 - (2 ^ 52 + t) * r) * 2 ^ 4)) c.row-c.ensures.0)
     ∙ sym (ln_in x c.if-x.true c.if-x-2.true)

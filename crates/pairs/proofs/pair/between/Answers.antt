@@ -16,17 +16,17 @@ through : (q : Question) (low high : Float) (limit : ℕ) → lt low high ≡ tr
 unfolding between search.between steps opened
 through q low high limit h = rw h (sym (opening (end_rows (ends (residual q) low high)) (ends (residual q) low high) (λ b. steps q b limit)))
 
-pub returns-in-Closed : goal.returns-in-Closed
-returns-in-Closed c =
+pub returns-in-Break : goal.returns-in-Break
+returns-in-Break c =
     let a = c.args in
-    rw (through a.question a.low a.high a.limit c.if-low-high.true, ← c.residual-r1.ensures, ← c.residual-r2.ensures, ← c.opened-opening.ensures, c.in-Closed.is)
+    rw (through a.question a.low a.high a.limit c.if-low-high.true, ← c.residual-r1.ensures, ← c.residual-r2.ensures, ← c.opened.ensures, c.in-Break.is)
 
-pub returns-in-Open : goal.returns-in-Open
-returns-in-Open c =
+pub returns-in-Continue : goal.returns-in-Continue
+returns-in-Continue c =
     let a = c.args in
-    rw (through a.question a.low a.high a.limit c.if-low-high.true, ← c.residual-r1.ensures, ← c.residual-r2.ensures, ← c.opened-opening.ensures, c.in-Open.is)
+    rw (through a.question a.low a.high a.limit c.if-low-high.true, ← c.residual-r1.ensures, ← c.residual-r2.ensures, ← c.opened.ensures, c.in-Continue.is)
     c.steps.ensures
 
-pub returns : goal.returns
+pub returns-else-low-high : goal.returns-else-low-high
 unfolding between search.between
-returns c = rw c.if-low-high.false c.refused.ensures
+returns-else-low-high c = rw c.if-low-high.false c.refused.ensures

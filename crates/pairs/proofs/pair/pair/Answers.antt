@@ -10,9 +10,9 @@ returns-in_default c = rw (← c.lower_end-lower.ensures, c.in_default.is) c.ref
 pub returns-in_default-upper : goal.returns-in_default-upper
 unfolding pair
 returns-in_default-upper c =
-    rw (← c.lower_end-lower.ensures, c.in-At.is, ← c.upper_end-upper.ensures, c.in_default-upper.is) c.refused-in_default-upper.ensures
+    rw (← c.lower_end-lower.ensures, c.in-Some.is, ← c.upper_end-upper.ensures, c.in_default-upper.is) c.refused-in_default-upper.ensures
 
 pub returns : goal.returns
 unfolding pair between steps search.between
 returns c =
-    rw (← c.lower_end-lower.ensures, c.in-At.is, ← c.upper_end-upper.ensures, c.in-At-upper.is) c.between.ensures
+    rw (← c.lower_end-lower.ensures, c.in-Some.is, ← c.upper_end-upper.ensures, c.in-Some-upper.is) c.between.ensures

@@ -1,17 +1,7 @@
--- `r1::region1_gfe::gamma_tautau_reg1` meets its contract: the arrays are the table's columns, tested by computation. Assumes nothing.
-use mathlib.Core.Path.{refl}
-use lib.Ieee.{of_bits}
-use Rattle.float.specs.Decimal.{rounded}
-use Rattle.polynomial.specs.Tables.{rows, all_in_range}
-use Rattle.r1.specs.Table2.{table}
+-- `r1::region1_gfe::gamma_tautau_reg1` meets its contract: it is its sum. Assumes nothing.
 use Rattle.r1.specs.Region1.{gamma_tautau}
 use Rattle.r1.proofs.region1_gfe.gamma_tautau_reg1.Goals as goal
 
-pub poly_jj_powi_steps-requires : goal.poly_jj_powi_steps-requires
-unfolding all_in_range
-poly_jj_powi_steps-requires c =
-    (record { firsts = tt; seconds = tt; as_long_j = refl; as_long_n = refl }, c.powers-xs.ensures, c.powers-ys.ensures)
-
 pub returns : goal.returns
-unfolding gamma_tautau table rows rounded of_bits
-returns c = c.poly_jj_powi_steps.ensures
+unfolding gamma_tautau
+returns c = c.derived.ensures

@@ -1,18 +1,7 @@
--- `r5::region5_gfe::residual_reg5` meets its contract: the arrays are the table's columns, tested by computation. Assumes nothing.
-use mathlib.Core.Path.{refl}
-use lib.Ieee.{of_bits}
-use Rattle.float.specs.Decimal.{rounded}
-use Rattle.polynomial.specs.Tables.{rows, all_in_range}
-use Rattle.r5.specs.Table38.{table}
+-- `r5::region5_gfe::residual_reg5` meets its contract. Assumes nothing.
 use Rattle.r5.specs.Parts.{residual_sums}
 use Rattle.r5.proofs.region5_gfe.residual_reg5.Goals as goal
 
-pub tile-requires : goal.tile-requires
-unfolding all_in_range
-tile-requires c =
-    let pre = c.requires in
-    (record { firsts = tt; seconds = tt; as_long_j = refl; as_long_n = refl }, pre.0, pre.1)
-
 pub returns : goal.returns
-unfolding residual_sums table rows rounded of_bits
-returns c = rw c.none.ensures at c.tile.ensures
+unfolding residual_sums
+returns g c = rw (c.tile.ensures, c.residual_terms.ensures, c.none.ensures, c.of.ensures, c.of-2.ensures)

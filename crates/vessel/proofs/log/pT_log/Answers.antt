@@ -1,9 +1,6 @@
-use Prim.Native.Nat.{ℕ, ◌<◌, zero-le}
+use Prim.Native.Nat.{ℕ, ◌<◌}
 use mathlib.Core.Path.{◌≡◌, refl, sym, ap, ◌∙◌, subst}
-use native.Mathlib.Numerals.{add-one-le}
-use native.Mathlib.Omega.{arith}
 use lib.ListN.{length}
-use borrow.Author.Count.{falls}
 use Rattle.vessel.specs.declared.log.Reading.{Reading}
 use Rattle.vessel.specs.Log.{lent, log, Together}
 use Rattle.vessel.proofs.Places.{as_long, one_more, whole, all_one}
@@ -23,56 +20,24 @@ unfolding log
 returns-then-not-together c = rw (← c.together.ensures, c.if-not-together.true) (record { value = refl; values_after = refl; numbers_after = refl })
 
 pub loop-place-init : goal.loop-place-init
-loop-place-init c = (zero-le, (record { so_far = refl }, record { so_far = refl }))
-
-pub offset_bounds-p-place : goal.offset_bounds-p-place
-offset_bounds-p-place c = omega (arith, c.loop-place-test.true, (agreed (goal.at.offset_bounds-p-place c).Else-not-together).at_most)
-
-pub bounds-p-place : goal.bounds-p-place
-bounds-p-place c = c.loop-place-test.true
-
-pub offset_bounds-T-place : goal.offset_bounds-T-place
-offset_bounds-T-place c = omega (arith, c.loop-place-test.true, (agreed (goal.at.offset_bounds-T-place c).Else-not-together).at_most)
+loop-place-init c = (record { so_far = refl }, record { so_far = refl })
 
 pub bounds-T-place : goal.bounds-T-place
 bounds-T-place c = within (goal.at.bounds-T-place c).In-loop-place (agreed (goal.at.bounds-T-place c).Else-not-together).T_as_p
 
-pub offset_bounds-values-place : goal.offset_bounds-values-place
-offset_bounds-values-place c = omega (arith, c.loop-place-test.true, (agreed (goal.at.offset_bounds-values-place c).Else-not-together).at_most)
-
 pub bounds-values-place : goal.bounds-values-place
-bounds-values-place c =
-    within (goal.at.bounds-values-place c).In-loop-place (as_long c.loop-place.invariant.1.0 ∙ (agreed (goal.at.bounds-values-place c).Else-not-together).values_as_p)
-
-pub offset_bounds-numbers-place : goal.offset_bounds-numbers-place
-offset_bounds-numbers-place c = omega (arith, c.loop-place-test.true, (agreed (goal.at.offset_bounds-numbers-place c).Else-not-together).at_most)
+bounds-values-place c = within (goal.at.bounds-values-place c).In-loop-place (as_long c.loop-place.invariant.0 ∙ (agreed (goal.at.bounds-values-place c).Else-not-together).values_as_p)
 
 pub bounds-numbers-place : goal.bounds-numbers-place
-bounds-numbers-place c =
-    within (goal.at.bounds-numbers-place c).In-loop-place (as_long c.loop-place.invariant.1.1 ∙ (agreed (goal.at.bounds-numbers-place c).Else-not-together).numbers_as_p)
-
-pub overflow_add-place : goal.overflow_add-place
-overflow_add-place c = record { fits = omega (arith, c.loop-place-test.true, (agreed (goal.at.overflow_add-place c).Else-not-together).at_most) }
-
-pub loop-place-smaller : goal.loop-place-smaller
-loop-place-smaller c = falls _ c.loop-place.place c.loop-place-test.true
+bounds-numbers-place c = within (goal.at.bounds-numbers-place c).In-loop-place (as_long c.loop-place.invariant.1 ∙ (agreed (goal.at.bounds-numbers-place c).Else-not-together).numbers_as_p)
 
 pub loop-place-preserved : goal.loop-place-preserved
 loop-place-preserved c =
     let lengths = agreed (goal.at.loop-place-preserved c).Else-not-together in
     let reads = c.number_and_value-reading.ensures in (
-      add-one-le c.loop-place-test.true,
-      (
-        one_more _ c.loop-place.invariant.1.0 (ap (λ (r : Reading). r.value) reads) c.loop-place-test.true lengths.T_as_p lengths.values_as_p,
-        one_more _ c.loop-place.invariant.1.1 (ap (λ (r : Reading). r.number) reads) c.loop-place-test.true lengths.T_as_p lengths.numbers_as_p,
-      ),
+      one_more _ c.loop-place.invariant.0 (ap (λ (r : Reading). r.value) reads) c.loop-place-test.true lengths.T_as_p lengths.values_as_p,
+      one_more _ c.loop-place.invariant.1 (ap (λ (r : Reading). r.number) reads) c.loop-place-test.true lengths.T_as_p lengths.numbers_as_p,
     )
-
-pub shape_of-values : goal.shape_of-values
-shape_of-values c = as_long c.loop-place.invariant.1.0
-
-pub shape_of-numbers : goal.shape_of-numbers
-shape_of-numbers c = as_long c.loop-place.invariant.1.1
 
 pub returns : goal.returns
 unfolding log
@@ -81,6 +46,6 @@ returns c =
     let to_the_end = c.loop-place-test.false in
     rw (← c.together.ensures, c.if-not-together.false) (record {
       value = refl;
-      values_after = whole c.loop-place.invariant.1.0 c.loop-place.invariant.0 to_the_end lengths.T_as_p lengths.values_as_p;
-      numbers_after = whole c.loop-place.invariant.1.1 c.loop-place.invariant.0 to_the_end lengths.T_as_p lengths.numbers_as_p;
+      values_after = whole c.loop-place.invariant.0 c.loop-place.auto.place-end to_the_end lengths.T_as_p lengths.values_as_p;
+      numbers_after = whole c.loop-place.invariant.1 c.loop-place.auto.place-end to_the_end lengths.T_as_p lengths.numbers_as_p;
     })

@@ -1,28 +1,19 @@
--- `vessel::pair::outcome` meets its contract: its tests are the rows. Assumes nothing.
-use borrow.Author.Tests.{le-leb, lt-leb}
+-- `vessel::pair::outcome` meets its contract: behind its tests the pair decides. Assumes nothing.
+use Rattle.std.proofs.Common.{rules, ◌≡◌, Bool, true, false}
+use mathlib.Core.Bool.{◌&&◌}
+use lib.Ieee.Scale.{finite}
+use borrow.Author.Tests.{le-leb}
+use Rattle.common.specs.Boundaries.{inside}
+use Rattle.pairs.specs.Residual.{row_of}
 use Rattle.pairs.specs.Pairs.{pair}
-use Rattle.vessel.specs.Searches.{outcome}
+use Rattle.vessel.specs.Searches.{volume_refused, outcome}
 use Rattle.vessel.proofs.pair.outcome.Goals as goal
-
-pub returns-then-limit-gt-LARGEST_STEP_LIMIT : goal.returns-then-limit-gt-LARGEST_STEP_LIMIT
-unfolding outcome
-returns-then-limit-gt-LARGEST_STEP_LIMIT c = rw (lt-leb _ _ c.if-limit-gt-LARGEST_STEP_LIMIT.true) c.refused.ensures
-
-pub returns-then-not-both_finite : goal.returns-then-not-both_finite
-unfolding outcome
-returns-then-not-both_finite c = rw (le-leb _ _ c.if-limit-gt-LARGEST_STEP_LIMIT.false, ← c.both_finite.ensures, c.if-not-both_finite.true) c.refused-then-not-both_finite.ensures
-
-pub returns-then-not-inside : goal.returns-then-not-inside
-unfolding outcome
-returns-then-not-inside c =
-    rw (le-leb _ _ c.if-limit-gt-LARGEST_STEP_LIMIT.false, ← c.both_finite.ensures, c.if-not-both_finite.false, ← c.range-range.ensures, ← c.inside.ensures, c.if-not-inside.true, ← c.number.ensures) c.refused-then-not-inside.ensures
-
-pub returns-then-volume_refused : goal.returns-then-volume_refused
-unfolding outcome
-returns-then-volume_refused c =
-    rw (le-leb _ _ c.if-limit-gt-LARGEST_STEP_LIMIT.false, ← c.both_finite.ensures, c.if-not-both_finite.false, ← c.range-range.ensures, ← c.inside.ensures, c.if-not-inside.false, ← c.volume_refused.ensures, c.if-volume_refused.true) c.refused-then-volume_refused.ensures
 
 pub returns : goal.returns
 unfolding outcome pair
 returns c =
-    rw (le-leb _ _ c.if-limit-gt-LARGEST_STEP_LIMIT.false, ← c.both_finite.ensures, c.if-not-both_finite.false, ← c.range-range.ensures, ← c.inside.ensures, c.if-not-inside.false, ← c.volume_refused.ensures, c.if-volume_refused.false) c.pair.ensures
+    let q = c.args.question in
+    let numbers : (finite q.fixed && finite q.target) ≡ true = search rules in
+    let in_range : inside (row_of q).range q.fixed ≡ true = search rules in
+    let volume : volume_refused q ≡ false = search rules in
+    rw (le-leb _ _ c.if-limit-gt-LARGEST_STEP_LIMIT.false, numbers, in_range, volume) c.pair.ensures

@@ -1,11 +1,7 @@
--- `vessel::property::formula` meets its contract: each arm is the definition's. Assumes nothing.
+-- `vessel::property::formula` meets its contract: the arm that an edit turns is written out. Assumes nothing.
+use Rattle.vessel.specs.Calls.{formula}
 use Rattle.vessel.proofs.property.formula.Goals as goal
 
-pub returns-in-One : goal.returns-in-One
-returns-in-One c = rw (c.in-One.is, ← c.formula_1.ensures)
-
-pub returns-in-Two : goal.returns-in-Two
-returns-in-Two c = rw (c.in-Two.is, ← c.formula_2.ensures)
-
-pub returns-in-Five : goal.returns-in-Five
-returns-in-Five c = rw (c.in-Five.is, ← c.formula_5.ensures)
+pub returns-in-Two-Volume : goal.returns-in-Two-Volume
+unfolding formula
+returns-in-Two-Volume c = rw (c.in-Two-Volume.is-0, c.in-Two-Volume.is-1) c.pT2v_reg2.ensures

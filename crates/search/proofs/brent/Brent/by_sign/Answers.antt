@@ -6,6 +6,6 @@ pub returns-then-same_sign : goal.returns-then-same_sign
 unfolding by_sign
 returns-then-same_sign c = rw (← c.same_sign.ensures, c.if-same_sign.true)
 
-pub returns : goal.returns
+pub returns-else-same_sign : goal.returns-else-same_sign
 unfolding by_sign
-returns c = rw (← c.same_sign.ensures, c.if-same_sign.false)
+returns-else-same_sign c = rw (← c.same_sign.ensures, c.if-same_sign.false)

@@ -1,8 +1,0 @@
--- `search::bracket::refused` meets its contract: it is the definition, computed. Assumes nothing.
-use mathlib.Core.Path.{refl}
-use lib.Ieee.{of_bits}
-use Rattle.search.proofs.bracket.refused.Goals as goal
-
-pub returns : goal.returns
-unfolding of_bits
-returns c = refl

@@ -1,0 +1,12 @@
+-- `tables::Printed::rounded` asks for a whole number only where there is one. Assumes nothing.
+use Rattle.std.proofs.Common.{T, sym, subst}
+use lib.Ieee.{of_bits, neg}
+use Rattle.tables.proofs.Printed.rounded.Goals as goal
+
+pub truncating_f64_to_u64-requires-clause-lower_bound : goal.truncating_f64_to_u64-requires-clause-lower_bound
+unfolding of_bits neg
+truncating_f64_to_u64-requires-clause-lower_bound c = subst T (sym c.if-y.true) tt
+
+pub truncating_f64_to_u64-requires-clause-upper_bound : goal.truncating_f64_to_u64-requires-clause-upper_bound
+unfolding of_bits neg
+truncating_f64_to_u64-requires-clause-upper_bound c = subst T (sym c.if-y-2.true) tt

@@ -1,8 +1,0 @@
--- `vessel::pair::pv2T` meets its contract: each arm is the definition's. Assumes nothing.
-use Rattle.vessel.proofs.pair.pv2T.Goals as goal
-
-pub returns-in-One : goal.returns-in-One
-returns-in-One c = rw (c.in-One.is, ← c.search.ensures)
-
-pub returns-in-Two : goal.returns-in-Two
-returns-in-Two c = rw (c.in-Two.is, ← c.search-in-Two.ensures)
