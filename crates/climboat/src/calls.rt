@@ -53,7 +53,7 @@ pub fn pv2T(region: u32, p: f64, v: f64, limit: u32) -> Answer
     vessel::pair::pv2T(region, p, v, limit)
 }
 
-// This call and the two below differ in their search alone: each takes its region apart itself, since one function over a closure is no plainer.
+// This call and the two below differ in their search alone. One function over a closure would have to require that it may be called, and to say its result through the closure's own contract: longer than the three.
 #[tactic(auto, unfolding(crate::specs::Calls::Tv2p, crate::specs::Calls::in_region))]
 pub fn Tv2p(region: u32, T: f64, v: f64, limit: u32) -> Answer
     ensures { result ≡ Tv2p_of region T v limit }

@@ -4,13 +4,16 @@
 ghost use Rattle.std.specs.Prelude.{◌≡◌};
 ghost use Rattle.vessel.specs.Calls.{saturation_pressure, saturation_temperature, B23_pressure, B23_temperature};
 ghost use Rattle.vessel.specs.Log.{lent};
-ghost use Rattle.vessel.specs.Range.{number};
+ghost use Rattle.vessel.specs.Range.{number as number_of};
 ghost use Rattle.climboat.specs.Calls.{pT, pT_log, pv2T, Tv2p, Th2p, Ts2p};
 ghost use Rattle.climboat.specs.Record.{numbers as numbers_of, doubles as doubles_of};
+
+use vessel::range::number;
 
 pub mod calls;
 pub mod record;
 
+// This call and the eight below that end in _columns differ in what they write alone: each is a call of the C interface.
 // A property by (p,T).
 pub fn climboat_pT_columns(
     region: u32,
@@ -35,14 +38,11 @@ pub fn climboat_pT_log_runs(
     values: &mut [f64],
     numbers: &mut [u32],
 ) -> u32
-    ensures value { result ≡ number (pT_log region property (lent p.now T.now values.old numbers.old)).back }
+    ensures value { result ≡ number_of (pT_log region property (lent p.now T.now values.old numbers.old)).back }
     ensures values_after { values.new ≡ (pT_log region property (lent p.now T.now values.old numbers.old)).values }
     ensures numbers_after { numbers.new ≡ (pT_log region property (lent p.now T.now values.old numbers.old)).numbers }
 {
-    match calls::pT_log(region, property, p, T, values, numbers) {
-        Ok(()) => 0,
-        Err(cause) => cause.number(),
-    }
+    number(calls::pT_log(region, property, p, T, values, numbers))
 }
 
 // The pressure of the saturation line at T.

@@ -1,4 +1,4 @@
-// An answer as two arrays: its columns that are whole numbers, and those that are doubles. The last place of each is 0.
+// An answer as two arrays: its columns that are whole numbers, and those that are doubles. The last place of each is 0. Choices are numbers here, for the C interface.
 ghost use Rattle.std.specs.Prelude.{◌≡◌};
 ghost use Rattle.vessel.specs.Answer.{columns};
 ghost use Rattle.climboat.specs.Record.{mark_number, four as four_of, told as told_of, fractions as fractions_of, numbers as numbers_of, doubles as doubles_of};
@@ -6,14 +6,6 @@ ghost use Rattle.climboat.specs.Record.{mark_number, four as four_of, told as to
 use search::bracket::Bracket;
 use vessel::answer::Answer;
 use vessel::asked::{Asked, property_number, region_number};
-
-// An answer without a mark has 0 in its place.
-#[tactic(auto, unfolding(crate::specs::Record::mark_number))]
-fn mark(inside: bool) -> u32
-    ensures { result ≡ mark_number inside }
-{
-    if inside { 1 } else { 2 }
-}
 
 // Why an answer is what it is; a refusal has no reason.
 #[derive(Clone, Copy)]
@@ -23,6 +15,25 @@ enum Reason {
     ExactEnd = 2,
     SmallResidual = 3,
     Narrow = 4,
+}
+
+// Where the (p,T) rule has a found value; an answer that no search found has no mark.
+#[derive(Clone, Copy)]
+enum Mark {
+    None = 0,
+    Inside = 1,
+    Outside = 2,
+}
+
+#[tactic(auto, unfolding(crate::specs::Record::mark_number))]
+fn mark_number(inside: bool) -> u32
+    ensures { result ≡ mark_number inside }
+{
+    if inside {
+        Mark::Inside as u32
+    } else {
+        Mark::Outside as u32
+    }
 }
 
 // The first four numbers: number, reason, steps, mark.
@@ -50,16 +61,26 @@ fn told(answer: Answer) -> First
     ensures { result ≡ told_of answer }
 {
     match answer {
-        Answer::Value(asked, x) => four(0, Reason::Plain as u32, 0, 0),
-        Answer::ExactEnd(asked, f) => four(0, Reason::ExactEnd as u32, f.steps, mark(f.inside)),
+        Answer::Value(asked, x) => four(0, Reason::Plain as u32, 0, Mark::None as u32),
+        Answer::ExactEnd(asked, f) => four(
+            0,
+            Reason::ExactEnd as u32,
+            f.steps,
+            mark_number(f.inside),
+        ),
         Answer::SmallResidual(asked, f) => four(
             0,
             Reason::SmallResidual as u32,
             f.steps,
-            mark(f.inside),
+            mark_number(f.inside),
         ),
-        Answer::Narrow(asked, f) => four(0, Reason::Narrow as u32, f.steps, mark(f.inside)),
-        Answer::Refused(asked, r) => four(r.cause.number(), Reason::None as u32, r.steps, 0),
+        Answer::Narrow(asked, f) => four(0, Reason::Narrow as u32, f.steps, mark_number(f.inside)),
+        Answer::Refused(asked, r) => four(
+            r.cause.number(),
+            Reason::None as u32,
+            r.steps,
+            Mark::None as u32,
+        ),
     }
 }
 
@@ -91,7 +112,7 @@ fn asked(answer: Answer) -> Asked
     }
 }
 
-// Number, reason, steps, mark, region, kind, property, 0. What it is of is taken out first, so that its numbers are looked up in one place: so short this is taken into every call.
+// Number, reason, steps, mark, region, kind, property, 0. What it is of is taken out first, so that its numbers are looked up in one place. It is short, so that the compiler takes it into every call.
 #[tactic(auto, unfolding(crate::specs::Record::numbers))]
 pub fn numbers(answer: Answer) -> [u32; 8]
     ensures { result ≡ numbers_of answer }
@@ -116,16 +137,7 @@ pub fn doubles(answer: Answer) -> [f64; 8]
     ensures { result ≡ doubles_of answer }
 {
     match answer {
-        Answer::Value(asked, x) => fractions(
-            x,
-            Bracket {
-                x1: 0.0,
-                x2: 0.0,
-                r1: 0.0,
-                r2: 0.0,
-            },
-            asked,
-        ),
+        Answer::Value(asked, x) => fractions(x, Bracket::none(), asked),
         Answer::ExactEnd(asked, f) | Answer::SmallResidual(asked, f) | Answer::Narrow(asked, f) =>
             fractions(f.value, f.bracket, asked),
         Answer::Refused(asked, r) => fractions(r.value, r.bracket, asked),

@@ -16,13 +16,14 @@ pub enum Cause {
     ResultNotFinite = 9,
     PointOutside = 10,
     LimitTooLarge = 11,
-    // the four runs of a log do not fit each other
+    // the four lengths of a log differ, or exceed the longest log's
     RunsUnfit = 13,
     // a number of the C interface that names no region or no property
     NamesNothing = 21,
 }
 
 impl Cause {
+    // A method and no From: it is one cast.
     pub fn number(self) -> u32
         ensures { result ≡ number_of self }
     {

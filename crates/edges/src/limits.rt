@@ -20,6 +20,7 @@ fn around(limit: f64) -> [(&'static str, f64); 3] {
     ]
 }
 
+// The loops over it below differ in their call alone: closures were tried in place of them, and each adds four functions to prove.
 fn told(rt: &impl Print, limit: &str, side: &str, answer: Answer) -> io::Result<()> {
     println!(rt; "{limit}{side}: {}", Columns(answer))
 }

@@ -1,20 +1,12 @@
 // Logs of six places: every number that the (p,T) rule gives, with answers between them; then lengths that are refused, and a log of no place.
-use common::cause::Cause;
 use pairs::row::Region;
 use show::Bits;
 use std::io;
 use vessel::log::pT_log;
 use vessel::property::Property;
+use vessel::range::number;
 
-// What comes back, by its number: 0 where the runs are filled.
-fn number(back: Result<(), Cause>) -> u32 {
-    match back {
-        Ok(()) => 0,
-        Err(cause) => cause.number(),
-    }
-}
-
-// What comes back, then each place. The runs before a call hold what no call gives.
+// What comes back, 0 where the runs are filled, then each place. The runs before a call hold what no call gives.
 fn asked(
     rt: &impl Print,
     name: &str,

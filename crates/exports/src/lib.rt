@@ -1,4 +1,4 @@
-// The float helpers and the equations under plain names, for compare/ to link: a static library of nothing but calls.
+// The float helpers and the equations under plain names, for compare/ to link: a static library of nothing but calls, each a symbol of its own.
 #![tactic(auto)]
 
 ghost use Rattle.std.specs.Prelude.{◌≡◌};

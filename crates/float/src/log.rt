@@ -2,7 +2,7 @@
 ghost use Rattle.std.specs.Prelude.{◌≡◌, ◌+◌, ◌-◌, ◌*◌, ◌/◌, ◌%◌, ◌^◌, ◌≤◌, ◌<◌};
 ghost use Rattle.float.specs.Log.{reciprocal, minus_log, fallen as fallen_of, scaled as scaled_of, difference as difference_of, logarithm};
 
-// a * b / 2^64, cut to a whole number. The compiler knows these lines as one multiplication.
+// a * b / 2^64, cut to a whole number. The compiler knows these lines as one multiplication. They stay, since a must-fail edit loses a carry in them (ln_carry_lost).
 fn high(a: u64, b: u64) -> u64
     ensures { result ≡ a * b / 2 ^ 64 }
 {

@@ -2,7 +2,7 @@
 ghost use Rattle.std.specs.Prelude.{◌≡◌};
 ghost use Rattle.float.specs.Power.{raised as raised_to, whole_power};
 
-// x to the m.
+// x to the m. The loop counts no index: the exponent is halved at each turn.
 fn raised(x: f64, m: u32) -> f64
     ensures { result ≡ raised_to x m }
 {
@@ -22,7 +22,7 @@ fn raised(x: f64, m: u32) -> f64
     r
 }
 
-// x to the n. The least i32 cannot be negated: its magnitude is even, so the rule's first turn is taken here.
+// x to the n, an i32 that is negated for the reciprocal (docs/DECISIONS.md, the list of forms by place). The least i32 cannot be negated: its magnitude is even, so the rule's first turn is taken here.
 pub fn powi(x: f64, n: i32) -> f64
     ensures { result ≡ whole_power x n }
 {

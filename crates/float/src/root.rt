@@ -31,7 +31,7 @@ struct Wide {
     low: u64,
 }
 
-// q squared, from its halves of 27 digits.
+// q squared, from its halves of 27 digits. They stay, since a must-fail edit loses a carry between them (square_carry_lost).
 fn square(q: u64) -> Wide
     requires { q < 2 ^ 54 }
     ensures { (result.high ≡ q * q / 2 ^ 54) × (result.low ≡ q * q % 2 ^ 54) }

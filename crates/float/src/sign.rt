@@ -1,4 +1,5 @@
-// The magnitude of a double, the smaller of two, sign taking, and signs compared with zero.
+// The magnitude of a double, the smaller of two, sign taking, and signs compared with zero. They are our own, as document 01 asks (its module 2), each with one stated result for every double,
+// NaN included, and with the edits that show it.
 ghost use Rattle.std.specs.Prelude.{◌≡◌};
 ghost use Rattle.std.specs.Float.Ieee.Scale.{finite};
 ghost use Rattle.exact.specs.Value.{negative};

@@ -43,7 +43,7 @@ pub fn between(question: Question, low: f64, high: f64, limit: u32) -> Outcome
     }
 }
 
-// The outcome of a pair, whatever its inputs: an end that is missing is 9.
+// The outcome of a pair, whatever its inputs: an end that is missing is 9. It leaves at once, by let .. else: docs/DECISIONS.md, the list of forms by place.
 pub fn pair(named: Pair, fixed: f64, target: f64, limit: u32) -> Outcome
     ensures { result ≡ pair_of (asks named fixed target) limit }
 {

@@ -1,4 +1,4 @@
-// The pairs of region 5, by their names in the Rust.
+// The pairs of region 5, by their names in the Rust. Each stays a function: docs/PROMISES.md names it.
 ghost use Rattle.std.specs.Prelude.{◌≡◌};
 ghost use Rattle.pairs.specs.Pairs.{asks, pair as pair_of};
 

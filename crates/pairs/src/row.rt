@@ -23,6 +23,7 @@ pub enum Region {
 }
 
 impl Region {
+    // A method and no From: it is one cast.
     pub fn number(self) -> u32
         ensures { result ≡ number_of self }
     {
@@ -67,17 +68,9 @@ impl Pair {
         ensures { result ≡ (row self).region }
     {
         match self {
-            Pair::Pv1 => Region::One,
-            Pair::Tv1 => Region::One,
-            Pair::Th1 => Region::One,
-            Pair::Ts1 => Region::One,
-            Pair::Pv2 => Region::Two,
-            Pair::Tv2 => Region::Two,
-            Pair::Th2 => Region::Two,
-            Pair::Ts2 => Region::Two,
-            Pair::Tv5 => Region::Five,
-            Pair::Th5 => Region::Five,
-            Pair::Ts5 => Region::Five,
+            Pair::Pv1 | Pair::Tv1 | Pair::Th1 | Pair::Ts1 => Region::One,
+            Pair::Pv2 | Pair::Tv2 | Pair::Th2 | Pair::Ts2 => Region::Two,
+            Pair::Tv5 | Pair::Th5 | Pair::Ts5 => Region::Five,
         }
     }
 
@@ -87,16 +80,10 @@ impl Pair {
     {
         match self {
             Pair::Pv1 => Range::P1,
-            Pair::Tv1 => Range::T1,
-            Pair::Th1 => Range::T1,
-            Pair::Ts1 => Range::T1,
+            Pair::Tv1 | Pair::Th1 | Pair::Ts1 => Range::T1,
             Pair::Pv2 => Range::P2,
-            Pair::Tv2 => Range::T2,
-            Pair::Th2 => Range::T2,
-            Pair::Ts2 => Range::T2,
-            Pair::Tv5 => Range::T5,
-            Pair::Th5 => Range::T5,
-            Pair::Ts5 => Range::T5,
+            Pair::Tv2 | Pair::Th2 | Pair::Ts2 => Range::T2,
+            Pair::Tv5 | Pair::Th5 | Pair::Ts5 => Range::T5,
         }
     }
 
@@ -105,17 +92,8 @@ impl Pair {
         ensures { result ≡ (row self).volume }
     {
         match self {
-            Pair::Pv1 => true,
-            Pair::Tv1 => true,
-            Pair::Th1 => false,
-            Pair::Ts1 => false,
-            Pair::Pv2 => true,
-            Pair::Tv2 => true,
-            Pair::Th2 => false,
-            Pair::Ts2 => false,
-            Pair::Tv5 => true,
-            Pair::Th5 => false,
-            Pair::Ts5 => false,
+            Pair::Pv1 | Pair::Tv1 | Pair::Pv2 | Pair::Tv2 | Pair::Tv5 => true,
+            Pair::Th1 | Pair::Ts1 | Pair::Th2 | Pair::Ts2 | Pair::Th5 | Pair::Ts5 => false,
         }
     }
 

@@ -94,3 +94,40 @@ power_at x i l = at_place x 64 0 i l ∙ ap (raised x) (omega arith)
 pub all_filled : (x : Float) (ps : List Float) → length ps ≡ 64 → Filled x ps 64 → ps ≡ powers x
 unfolding powers
 all_filled x ps e f = ext_get_or nan ps (powers x) e (λ i l. let m : i < 64 = omega arith in f i m ∙ sym (power_at x i m))
+
+-- ---- the next doubling
+pub high_within : (h : ℕ) → h < 6 → 2 ^ h ≤ 32
+high_within zero l = omega arith
+high_within (suc zero) l = omega arith
+high_within (suc (suc zero)) l = omega arith
+high_within (suc (suc (suc zero))) l = omega arith
+high_within (suc (suc (suc (suc zero)))) l = omega arith
+high_within (suc (suc (suc (suc (suc zero))))) l = omega arith
+high_within (suc (suc (suc (suc (suc (suc h)))))) l = absurd (omega arith)
+
+pub next_squared : (h : ℕ) (x : Float) → squared h x ⊗ squared h x ≡ squared (suc h) x
+unfolding squared
+next_squared zero x = refl
+next_squared (suc h) x = next_squared h (x ⊗ x)
+
+-- what holds before the turn at h
+pub record Doubled (x : Float) (ps : List Float) (high : ℕ) (sq : Float) (h : ℕ) : Type 0 where
+  pub within : h ≤ 6
+  pub power : high ≡ 2 ^ h
+  pub square : sq ≡ squared h x
+  pub long : length ps ≡ 64
+  pub filled : Filled x ps high
+
+pub doubled_next : {x : Float} {ps qs : List Float} {high : ℕ} {sq : Float} {h : ℕ} → Doubled x ps high sq h → h < 6 → length qs ≡ 64 → Filled x qs (high + high) → Doubled x qs (high + high) (sq ⊗ sq) (h + 1)
+doubled_next {x} {ps} {qs} {high} {sq} {h} d l long f =
+    let e : h + 1 ≡ suc h = omega arith in
+    let p : 2 ^ suc h ≡ 2 * 2 ^ h = rw pow-suc (omega arith) in
+    let m = d.power in
+    let to : high + high ≡ 2 ^ suc h = omega arith in
+    record {
+      within = omega arith;
+      power = to ∙ ap (λ (n : ℕ). 2 ^ n) (sym e);
+      square = ap (λ (y : Float). y ⊗ sq) d.square ∙ ap (λ (y : Float). squared h x ⊗ y) d.square ∙ next_squared h x ∙ ap (λ (n : ℕ). squared n x) (sym e);
+      long = long;
+      filled = f;
+    }

@@ -207,7 +207,7 @@ within_columns {e} {is} {js} {ns} c v h =
     let n = c.as_long_n in
     record { in_i = m; in_j = omega arith; in_n = omega arith }
 
--- ---- one level of tiles, of whatever size: the loop that hands on the rows from a up to its next cut
+-- ---- one level of tiles, wherever they are cut: the rows from a up to the next cut
 
 -- the next cut rises, and lies within the table
 pub record Cut (a e n : ℕ) : Type 0 where
@@ -232,3 +232,21 @@ module _ {S : Type 0} (f : S → Row → S) (s : S) (rs : List Row) where
 
   pub summed_all : {x : S} {a : ℕ} → Summed x a → length rs ≤ a → x ≡ over f s rs
   summed_all {x} {a} v h = upto_all f s rs a h v.upto
+
+-- ---- one level of tiles, of whatever size: the loop that hands on `size` rows from a, or fewer at the end
+module _ {S : Type 0} (f : S → Row → S) (s : S) (rs : List Row) where
+  -- behind the last piece the loop's next start may lie behind the table's end
+  abbrev pub Reached : S → ℕ → Type 0
+  Reached x a = Upto f s rs x (min a (length rs))
+
+  pub reached_none : Reached s 0
+  reached_none = let n : 0 ≡ min 0 (length rs) = omega arith in subst (Upto f s rs s) n (upto_none f s rs)
+
+  pub reached_next : {x y : S} {a e n : ℕ} (size : ℕ) → Reached x a → a < n → n ≡ length rs → e ≡ min (a + size) n → y ≡ over f x (part a e rs) → Reached y (a + size)
+  reached_next {x} {y} {a} {e} {n} size v h l m q =
+      let at : min a (length rs) ≡ a = omega arith in
+      let to : e ≡ min (a + size) (length rs) = omega arith in
+      subst (Upto f s rs y) to (upto_next f s rs a e (omega arith) (subst (Upto f s rs x) at v) q)
+
+  pub reached_all : {x : S} {a : ℕ} → Reached x a → length rs ≤ a → x ≡ over f s rs
+  reached_all {x} {a} v h = upto_all f s rs (min a (length rs)) (omega arith) v

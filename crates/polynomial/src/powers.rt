@@ -37,22 +37,20 @@ fn doubled(x: f64, p: [f64; 64], h: u32, high: usize, sq: f64) -> [f64; 64]
 }
 
 impl Powers {
-    // The powers of x.
+    // The powers of x: from x^0 alone, six times doubled in number.
     pub fn of(x: f64) -> Powers
         ensures { result ≡ x }
     {
-        let x2 = x * x;
-        let x4 = x2 * x2;
-        let x8 = x4 * x4;
-        let x16 = x8 * x8;
-        let x32 = x16 * x16;
-        let p0: [f64; 64] = [1.0; 64];
-        let p1 = doubled(x, p0, 0, 1, x);
-        let p2 = doubled(x, p1, 1, 2, x2);
-        let p3 = doubled(x, p2, 2, 4, x4);
-        let p4 = doubled(x, p3, 3, 8, x8);
-        let p5 = doubled(x, p4, 4, 16, x16);
-        let kept = doubled(x, p5, 5, 32, x32);
+        let mut kept: [f64; 64] = [1.0; 64];
+        let mut high: usize = 1;
+        let mut sq = x;
+        for h in 0..6 {
+            // A local of its own: no proof is made where a call lays an array into one that is there.
+            let more = doubled(x, kept, h, high, sq);
+            kept = more;
+            high = high + high;
+            sq = sq * sq;
+        }
         Powers { base: x, kept }
     }
 

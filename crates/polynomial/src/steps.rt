@@ -10,7 +10,7 @@ ghost use Rattle.polynomial.specs.Tables.{in_range};
 ghost use Rattle.polynomial.specs.Kinds.{only_0_j, only_i_j, only_i_ii_ij_jj, of_shared, OnlyLaws, laws_0_j, laws_i_j, laws_i_ii_ij_jj};
 
 use crate::powers::Powers;
-use crate::{Kind, Order, Sums};
+use crate::{Kind, Order, Sums, none};
 use std::marker::PhantomData;
 
 // How often a power is derived.
@@ -80,11 +80,8 @@ impl Read for ZeroJ {
     fn only(s: Sums) -> Sums {
         Sums {
             zero: s.zero,
-            i: 0.0,
             j: s.j,
-            ii: 0.0,
-            ij: 0.0,
-            jj: 0.0,
+            ..none()
         }
     }
 }
@@ -96,12 +93,9 @@ impl Read for IJ {
 
     fn only(s: Sums) -> Sums {
         Sums {
-            zero: 0.0,
             i: s.i,
             j: s.j,
-            ii: 0.0,
-            ij: 0.0,
-            jj: 0.0,
+            ..none()
         }
     }
 }
@@ -114,16 +108,14 @@ impl Read for IIiIjJj {
     fn only(s: Sums) -> Sums {
         Sums {
             zero: 0.0,
-            i: s.i,
             j: 0.0,
-            ii: s.ii,
-            ij: s.ij,
-            jj: s.jj,
+            ..s
         }
     }
 }
 
 // The sums with one more row.
+// i, j and n stay three parameters: a row as a value with an invariant would be made at every row of every sum and opened at once, and be no plainer.
 pub trait Step {
     ghost step: { Float → Float → Sums → Row → Sums };
 
@@ -157,11 +149,7 @@ fn with_first(s: Sums, x: f64) -> Sums
 {
     Sums {
         zero: s.zero + x,
-        i: s.i,
-        j: s.j,
-        ii: s.ii,
-        ij: s.ij,
-        jj: s.jj,
+        ..s
     }
 }
 
@@ -214,11 +202,8 @@ impl Step for AloneShared {
         let x = Not::times(n, vj, j);
         Sums {
             zero: s.zero + x,
-            i: s.i,
             j: s.j + x * (j as f64),
-            ii: s.ii,
-            ij: s.ij,
-            jj: s.jj,
+            ..s
         }
     }
 }

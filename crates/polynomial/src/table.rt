@@ -4,7 +4,8 @@ ghost use Rattle.polynomial.specs.Tables.{part};
 
 use std::marker::Model;
 
-// Three parallel arrays: the two exponents and the coefficient of each row. A contract sees the rows.
+// Three parallel arrays: the two exponents and the coefficient of each row. They stay three, and a part of a table is made of a part of each: docs/DECISIONS.md, the list of forms by place. A
+// contract sees the rows.
 #[derive(Drop)]
 pub struct Table<'a> {
     pub is: &'a [i32],

@@ -5,9 +5,9 @@ ghost use Rattle.polynomial.specs.Terms.{term, total};
 ghost use Rattle.polynomial.specs.Kinds.{only_0_j, only_i_j, only_i_ii_ij_jj};
 
 use polynomial::powers::Powers;
-use polynomial::steps::{Derived, IIiIjJj, IJ, Not, Once, Read, Shared, Twice, ZeroJ};
+use polynomial::steps::{Derived, IIiIjJj, IJ, Not, Once, Read, Twice, ZeroJ};
 use polynomial::table::Table;
-use polynomial::{Sums, divided, none, poly_powi_steps, tiles};
+use polynomial::{Sums, poly_powi_steps, polys_powi_steps};
 
 // Table 2 of the release, by columns.
 const I: [i32; 34] = [
@@ -101,12 +101,9 @@ fn turned(s: Sums) -> Sums
     ensures { result ≡ turned_of s }
 {
     Sums {
-        zero: s.zero,
         i: -s.i,
-        j: s.j,
-        ii: s.ii,
         ij: -s.ij,
-        jj: s.jj,
+        ..s
     }
 }
 
@@ -114,10 +111,8 @@ fn turned(s: Sums) -> Sums
 fn shared<R: Read>(pi: f64, tau: f64) -> Sums
     ensures { result ≡ R.only (derivatives pi tau) }
 {
-    let vi = Powers::of(7.1 - pi);
-    let vj = Powers::of(tau - 1.222);
-    let s = tiles::<Shared<R>>(none(), &vi, &vj, &terms());
-    R::only(turned(divided(s, vi.base(), vj.base())))
+    let s = polys_powi_steps::<R>(&Powers::of(7.1 - pi), &Powers::of(tau - 1.222), &terms());
+    R::only(turned(s))
 }
 
 // The energy itself and its derivative in tau, which share their powers.

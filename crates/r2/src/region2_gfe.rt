@@ -7,11 +7,9 @@ ghost use Rattle.polynomial.specs.Kinds.{only_0_j, only_i_j, only_i_ii_ij_jj};
 
 use float::log::ln;
 use polynomial::powers::Powers;
-use polynomial::steps::{
-    Alone, AloneShared, Derived, IIiIjJj, IJ, Not, Once, Read, Shared, Twice, ZeroJ,
-};
+use polynomial::steps::{Alone, AloneShared, Derived, IIiIjJj, IJ, Not, Once, Read, Twice, ZeroJ};
 use polynomial::table::Table;
-use polynomial::{Sums, divided, from, none, poly_powi_steps, tile, tiles};
+use polynomial::{Sums, from, none, poly_powi_steps, polys_powi_steps, tile};
 
 // Table 10 of the release, by columns.
 const J0: [i32; 9] = [0, 1, -5, -4, -3, -2, -1, 2, 3];
@@ -181,10 +179,7 @@ pub fn gammar_tautau_reg2(pi: f64, tau: f64) -> f64
 fn residual_shared<R: Read>(pi: f64, tau: f64) -> Sums
     ensures { result ≡ R.only (residual equation pi tau) }
 {
-    let vi = Powers::of(pi);
-    let vj = Powers::of(tau - 0.5);
-    let s = tiles::<Shared<R>>(none(), &vi, &vj, &residual_terms());
-    R::only(divided(s, vi.base(), vj.base()))
+    R::only(polys_powi_steps::<R>(&Powers::of(pi), &Powers::of(tau - 0.5), &residual_terms()))
 }
 
 // The residual part itself and its derivative in tau, which share their powers.

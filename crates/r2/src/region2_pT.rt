@@ -1,4 +1,5 @@
 // The properties of region 2 by (p,T), with no check of the range. The reduced pressure is p itself, in MPa.
+// What regions 2 and 5 share is `gibbs`. One function of a property for both would go past the derivatives of region 2, which the Rust names and docs/PROMISES.md lists, and leave them uncalled.
 ghost use Rattle.std.specs.Prelude.{◌≡◌};
 ghost use Rattle.r2.specs.Region2.{pT2v, pT2u, pT2s, pT2h, pT2cp, pT2cv, pT2w};
 

@@ -7,7 +7,7 @@ use common::boundaries::{B23_T2p, B23_p2T, found};
 use common::cause::Cause;
 use common::constant::{P_MAX, P_MIN3, T_MAX1, T_MAX3, T_MIN};
 
-// What a line answers, taken apart before it becomes an end: a double, or none where the line refuses.
+// What a line answers, taken apart before it becomes an end: a double, or none where the line refuses. By let .. else and not by `.ok()`: docs/DECISIONS.md, the list of forms by place.
 pub fn read_off(line: Result<f64, Cause>) -> Option<f64>
     ensures { result ≡ read_off line }
 {

@@ -1,4 +1,4 @@
-// The properties of region 5 by (p,T), with no check of the range. The reduced pressure is p itself, in MPa.
+// The properties of region 5 by (p,T), with no check of the range. The reduced pressure is p itself, in MPa. Why region 2 has its own stands there.
 ghost use Rattle.std.specs.Prelude.{◌≡◌};
 ghost use Rattle.r5.specs.Region5.{pT2v, pT2u, pT2s, pT2h, pT2cp, pT2cv, pT2w};
 

@@ -2,6 +2,7 @@
 use climboat::calls::{Th2p, Ts2p, Tv2p, pT, pv2T};
 use digits::{double, number_of};
 use vessel::answer::Answer;
+use vessel::asked::Kind;
 use vessel::saturation::{
     B23_pressure, B23_temperature, saturation_pressure, saturation_temperature,
 };
@@ -47,18 +48,18 @@ impl Input {
 
     // What the vessel answers, where the number names a call.
     fn answer(self) -> Option<Answer> {
-        match self.call {
-            1 => Some(pT(self.region, self.property, self.first, self.second)),
-            2 => Some(saturation_pressure(self.first)),
-            3 => Some(saturation_temperature(self.first)),
-            4 => Some(B23_pressure(self.first)),
-            5 => Some(B23_temperature(self.first)),
-            6 => Some(pv2T(self.region, self.first, self.second, self.limit)),
-            7 => Some(Tv2p(self.region, self.first, self.second, self.limit)),
-            8 => Some(Th2p(self.region, self.first, self.second, self.limit)),
-            9 => Some(Ts2p(self.region, self.first, self.second, self.limit)),
-            _ => None,
-        }
+        let answer = match Kind::try_from(self.call).ok()? {
+            Kind::PT => pT(self.region, self.property, self.first, self.second),
+            Kind::SaturationPressure => saturation_pressure(self.first),
+            Kind::SaturationTemperature => saturation_temperature(self.first),
+            Kind::B23Pressure => B23_pressure(self.first),
+            Kind::B23Temperature => B23_temperature(self.first),
+            Kind::Pv => pv2T(self.region, self.first, self.second, self.limit),
+            Kind::Tv => Tv2p(self.region, self.first, self.second, self.limit),
+            Kind::Th => Th2p(self.region, self.first, self.second, self.limit),
+            Kind::Ts => Ts2p(self.region, self.first, self.second, self.limit),
+        };
+        Some(answer)
     }
 }
 

@@ -1,5 +1,5 @@
 // Answers a list of inputs in bits, read from standard input: each line of it, and what the vessel answers.
-// A line is fixed in width: call, region, property, limit and two doubles, in hexadecimal digits with a space between.
+// A line is fixed in width: call, region, property, limit and two doubles, in hexadecimal digits with a space between. So it is read into fixed memory, and no heap is needed.
 #![tactic(auto)]
 
 mod line;

@@ -1,13 +1,13 @@
 // A bracket with its residuals, what a search comes to, and how it opens.
 ghost use Rattle.std.specs.Prelude.{◌≡◌};
-ghost use Rattle.search.specs.Bracket.{ordered as ordered_of, strictly_between};
+ghost use Rattle.search.specs.Bracket.{no_bracket, ordered as ordered_of, strictly_between};
 ghost use Rattle.search.specs.Search.{refused as refused_of, opened as opened_of};
 
 use common::cause::Cause;
 use float::sign::{is_finite, same_sign};
 use std::ops::ControlFlow;
 
-// Two ends, and the residual at each.
+// Two ends, and the residual at each. The fields stay flat, and so do the doubles that one is made of: docs/DECISIONS.md, the list of forms by place.
 #[derive(Clone, Copy)]
 pub struct Bracket {
     pub x1: f64,
@@ -63,16 +63,22 @@ pub fn strictly_between(x: f64, b: f64, c: f64) -> bool
 pub fn refused(cause: Cause) -> Outcome
     ensures { result ≡ refused_of cause }
 {
-    let nothing = Bracket {
-        x1: 0.0,
-        x2: 0.0,
-        r1: 0.0,
-        r2: 0.0,
-    };
-    Outcome::Refused(cause, 0.0, 0, nothing)
+    Outcome::Refused(cause, 0.0, 0, Bracket::none())
 }
 
 impl Bracket {
+    // What is reported where there is no bracket.
+    pub fn none() -> Bracket
+        ensures { result ≡ no_bracket }
+    {
+        Bracket {
+            x1: 0.0,
+            x2: 0.0,
+            r1: 0.0,
+            r2: 0.0,
+        }
+    }
+
     // Both residuals are known: one that is not finite, an end that is an exact answer, and two of the same sign close the search.
     #[tactic(auto, unfolding(crate::specs::Search::opened))]
     pub fn opened(self) -> ControlFlow<Outcome, Bracket>

@@ -7,7 +7,7 @@ use common::cause::Cause;
 use float::sign::{abs, copysign, is_finite, min, same_sign};
 use std::ops::ControlFlow;
 
-// Three points with their residuals, and the two remembered step lengths. b is the last point; b and c are the bracket.
+// Three points with their residuals, and the two remembered step lengths. b is the last point; b and c are the bracket. Names and fields are those of the Rust's zbrent, flat as a bracket's.
 #[derive(Clone, Copy)]
 pub struct Brent {
     pub a: f64,

@@ -3,11 +3,10 @@
 
 use common::boundaries::{B23_T2p, B23_p2T};
 use float::power::powi;
-use r1::region1_pT::{pT2cp_reg1, pT2h_reg1, pT2s_reg1, pT2u_reg1, pT2v_reg1, pT2w_reg1};
-use r2::region2_pT::{pT2cp_reg2, pT2h_reg2, pT2s_reg2, pT2u_reg2, pT2v_reg2, pT2w_reg2};
+use pairs::row::Region;
 use r4::region4_sat_pT::{T_saturation_formula, p_saturation_formula};
-use r5::region5_pT::{pT2cp_reg5, pT2h_reg5, pT2s_reg5, pT2u_reg5, pT2v_reg5, pT2w_reg5};
 use std::{fmt, io};
+use vessel::property::{Property, formula};
 
 // A value as the release prints it: the digits behind the point, and the power of ten.
 #[derive(Clone, Copy, PartialEq, Eq)]
@@ -51,58 +50,30 @@ fn line<S: fmt::Display + Drop>(
     }
 }
 
-// The properties in the rows of Tables 5, 15 and 42.
-const PROPERTIES: [&str; 6] = ["v", "h", "u", "s", "cp", "w"];
-
-fn region1(p: f64, T: f64) -> [f64; 6] {
-    [
-        pT2v_reg1(p, T),
-        pT2h_reg1(p, T),
-        pT2u_reg1(p, T),
-        pT2s_reg1(p, T),
-        pT2cp_reg1(p, T),
-        pT2w_reg1(p, T),
-    ]
-}
-
-fn region2(p: f64, T: f64) -> [f64; 6] {
-    [
-        pT2v_reg2(p, T),
-        pT2h_reg2(p, T),
-        pT2u_reg2(p, T),
-        pT2s_reg2(p, T),
-        pT2cp_reg2(p, T),
-        pT2w_reg2(p, T),
-    ]
-}
-
-fn region5(p: f64, T: f64) -> [f64; 6] {
-    [
-        pT2v_reg5(p, T),
-        pT2h_reg5(p, T),
-        pT2u_reg5(p, T),
-        pT2s_reg5(p, T),
-        pT2cp_reg5(p, T),
-        pT2w_reg5(p, T),
-    ]
-}
+// The properties in the rows of Tables 5, 15 and 42, each with its sign.
+const PROPERTIES: [(Property, &str); 6] = [
+    (Property::Volume, "v"),
+    (Property::Enthalpy, "h"),
+    (Property::InternalEnergy, "u"),
+    (Property::Entropy, "s"),
+    (Property::Cp, "cp"),
+    (Property::SpeedOfSound, "w"),
+];
 
 // A table of a region: p and T of each column, and the rows as they are printed.
-fn table<F: Fn(f64, f64) -> [f64; 6]>(
+fn table(
     rt: &impl Print,
     name: &str,
-    region: F,
+    region: Region,
     states: [(f64, f64); 3],
     rows: [[(u64, i8); 3]; 6],
-) -> io::Result<()>
-    requires { F.IsAlwaysCallable region }
-{
+) -> io::Result<()> {
     for (column, (p, T)) in states.iter().enumerate() {
-        let values = region(*p, *T);
-        for ((property, x), row) in PROPERTIES.iter().zip(values.iter()).zip(rows.iter()) {
+        for ((property, sign), row) in PROPERTIES.iter().zip(rows.iter()) {
             let (digits, power) = row[column];
             let state = format_args!("{name}, {p} MPa, {T} K");
-            line(rt, state, property, *x, Printed(digits, power))?;
+            let x = formula(region, *property, *p, *T);
+            line(rt, state, sign, x, Printed(digits, power))?;
         }
     }
     Ok(())
@@ -118,7 +89,7 @@ fn table5(rt: &impl Print) -> io::Result<()> {
         [(417301218, 1), (401008987, 1), (465580682, 1)],
         [(150773921, 4), (163469054, 4), (124071337, 4)],
     ];
-    table(rt, "Table 5", region1, states, rows)
+    table(rt, "Table 5", Region::One, states, rows)
 }
 
 fn table15(rt: &impl Print) -> io::Result<()> {
@@ -131,7 +102,7 @@ fn table15(rt: &impl Print) -> io::Result<()> {
         [(191300162, 1), (208141274, 1), (103505092, 2)],
         [(427920172, 3), (644289068, 3), (480386523, 3)],
     ];
-    table(rt, "Table 15", region2, states, rows)
+    table(rt, "Table 15", Region::Two, states, rows)
 }
 
 fn table42(rt: &impl Print) -> io::Result<()> {
@@ -144,7 +115,30 @@ fn table42(rt: &impl Print) -> io::Result<()> {
         [(261609445, 1), (272724317, 1), (288569882, 1)],
         [(917068690, 3), (928548002, 3), (106736948, 4)],
     ];
-    table(rt, "Table 42", region5, states, rows)
+    table(rt, "Table 42", Region::Five, states, rows)
+}
+
+// A table of the saturation line: each row's input in its unit, and the other coordinate as it is printed.
+fn line_table<F: Fn(f64) -> f64>(
+    rt: &impl Print,
+    name: &str,
+    unit: &str,
+    sign: &str,
+    coordinate: F,
+    rows: [(f64, Printed); 3],
+) -> io::Result<()>
+    requires { F.IsAlwaysCallable coordinate }
+{
+    for (x, printed) in rows {
+        line(
+            rt,
+            format_args!("{name}, {x} {unit}"),
+            sign,
+            coordinate(x),
+            printed,
+        )?;
+    }
+    Ok(())
 }
 
 fn table35(rt: &impl Print) -> io::Result<()> {
@@ -153,16 +147,7 @@ fn table35(rt: &impl Print) -> io::Result<()> {
         (500.0, Printed(263889776, 1)),
         (600.0, Printed(123443146, 2)),
     ];
-    for (T, printed) in rows {
-        line(
-            rt,
-            format_args!("Table 35, {T} K"),
-            "p",
-            p_saturation_formula(T),
-            printed,
-        )?;
-    }
-    Ok(())
+    line_table(rt, "Table 35", "K", "p", p_saturation_formula, rows)
 }
 
 fn table36(rt: &impl Print) -> io::Result<()> {
@@ -171,16 +156,7 @@ fn table36(rt: &impl Print) -> io::Result<()> {
         (1.0, Printed(453035632, 3)),
         (10.0, Printed(584149488, 3)),
     ];
-    for (p, printed) in rows {
-        line(
-            rt,
-            format_args!("Table 36, {p} MPa"),
-            "T",
-            T_saturation_formula(p),
-            printed,
-        )?;
-    }
-    Ok(())
+    line_table(rt, "Table 36", "MPa", "T", T_saturation_formula, rows)
 }
 
 fn b23(rt: &impl Print) -> io::Result<()> {

@@ -46,12 +46,7 @@ pub fn refused(asked: Asked, cause: Cause) -> Answer
             cause,
             value: 0.0,
             steps: 0,
-            bracket: Bracket {
-                x1: 0.0,
-                x2: 0.0,
-                r1: 0.0,
-                r2: 0.0,
-            },
+            bracket: Bracket::none(),
         },
     )
 }

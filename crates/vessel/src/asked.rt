@@ -1,8 +1,11 @@
 // What a call is of: one record, made once per call, which every answer and every refusal carries.
-ghost use Rattle.std.specs.Prelude.{◌≡◌};
+ghost use Rattle.std.specs.Prelude.{◌≡◌, ok_or};
+ghost use Rattle.common.specs.declared.cause.Cause.TheVariants.{NamesNothing};
 ghost use Rattle.vessel.specs.Asked.{region_number, property_number, kind_number, kind_of, at_state, on_line, of_pair};
+ghost use Rattle.vessel.specs.Names.{kind_named};
 
 use crate::property::Property;
+use common::cause::Cause;
 use pairs::row::{Pair, Region};
 
 // The kind of a call: after its two inputs, or after the coordinate of a line that it asks for.
@@ -30,10 +33,33 @@ pub struct Asked {
 }
 
 impl Kind {
+    // A method and no From: it is one cast.
     pub fn number(self) -> u32
         ensures { result ≡ kind_number self }
     {
         self as u32
+    }
+}
+
+impl TryFrom<u32> for Kind {
+    type Error = Cause;
+
+    ghost try_from_gives = { λ number r. r ≡ ok_or (kind_named number) NamesNothing };
+
+    #[tactic(auto, unfolding(crate::specs::Names::kind_named))]
+    fn try_from(number: u32) -> Result<Self, Cause> {
+        match number {
+            1 => Ok(Kind::PT),
+            2 => Ok(Kind::SaturationPressure),
+            3 => Ok(Kind::SaturationTemperature),
+            4 => Ok(Kind::B23Pressure),
+            5 => Ok(Kind::B23Temperature),
+            6 => Ok(Kind::Pv),
+            7 => Ok(Kind::Tv),
+            8 => Ok(Kind::Th),
+            9 => Ok(Kind::Ts),
+            _ => Err(Cause::NamesNothing),
+        }
     }
 }
 

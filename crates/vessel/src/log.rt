@@ -10,7 +10,7 @@ use pairs::row::Region;
 // The longest log; a longer one is refused.
 pub const LONGEST_LOG: usize = 4096;
 
-// The columns number and value of the call by (p,T).
+// The columns number and value of the call by (p,T), side by side as the C interface's two runs have them: where it refuses the value is 0.
 #[derive(Clone, Copy)]
 struct Reading {
     number: u32,
@@ -18,7 +18,6 @@ struct Reading {
 }
 
 // What the call by (p,T) gives, without what it is of.
-#[tactic(auto, unfolding(crate::specs::Calls::property, crate::specs::Answer::direct))]
 fn number_and_value(region: Region, property: Property, p: f64, T: f64) -> Reading
     ensures { result ≡ reading_of (property_of region property p T) }
 {
@@ -41,7 +40,8 @@ fn together(p: usize, T: usize, values: usize, numbers: usize) -> bool
     p <= LONGEST_LOG && [T, values, numbers] == [p; 3]
 }
 
-// A property of the named region at every (p,T) of a log. Where the lengths of the runs differ or exceed the longest log's, nothing is written.
+// A property of the named region at every (p,T) of a log. Where the lengths of the runs differ or exceed the longest log's, nothing is written. The
+// four runs are apart, as the C interface lends them.
 pub fn pT_log(
     region: Region,
     property: Property,

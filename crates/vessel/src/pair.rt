@@ -114,7 +114,7 @@ pub fn pv2T(region: PvRegion, p: f64, v: f64, limit: u32) -> Answer
     }
 }
 
-// (T,v) to p. This call and the two below differ in their pairs alone: each names its own, since one function over a table of pairs is no plainer.
+// (T,v) to p. This call and the two below differ in their pairs alone: a table of three pairs by region would stand in place of each match, and one function over it beside.
 pub fn Tv2p(region: Region, T: f64, v: f64, limit: u32) -> Answer
     ensures { result ≡ Tv2p_of region T v limit }
 {

@@ -34,7 +34,7 @@ pub enum Property {
 }
 
 impl Property {
-    // Its place in document 01's list.
+    // Its place in document 01's list. A method and no From: it is one cast.
     pub fn number(self) -> u32
         ensures { result ≡ place_of self }
     {
@@ -103,7 +103,6 @@ pub fn value(region: Region, property: Property, p: f64, T: f64) -> Result<f64, 
 }
 
 // A property of the named region at (p,T).
-#[tactic(auto, unfolding(crate::specs::Calls::property))]
 pub fn pT(region: Region, property: Property, p: f64, T: f64) -> Answer
     ensures { result ≡ property_of region property p T }
 {

@@ -2,7 +2,7 @@
 ghost use Rattle.std.specs.Prelude.{◌≡◌, cond, Ok, Err};
 ghost use Rattle.common.specs.Boundaries.{inside as inside_range, cause_of};
 ghost use Rattle.search.specs.Decision.{decided};
-ghost use Rattle.vessel.specs.Range.{limits, refusing, check as check_of, inside as inside_of};
+ghost use Rattle.vessel.specs.Range.{limits, refusing, number as number_of, check as check_of, inside as inside_of};
 
 use common::boundaries::Range;
 use common::cause::Cause;
@@ -10,6 +10,16 @@ use common::constant::P_MAX;
 use float::sign::is_finite;
 use pairs::row::Region;
 use r4::ends::{T2pmax_reg2, beside_pmin_reg1};
+
+// 0, or the cause's number.
+pub fn number<A: Drop>(back: Result<A, Cause>) -> u32
+    ensures { result ≡ number_of back }
+{
+    match back {
+        Ok(_) => 0,
+        Err(cause) => cause.number(),
+    }
+}
 
 // Refuses an x that lies outside a range.
 fn within(range: Range, x: f64) -> Result<(), Cause>
@@ -30,11 +40,11 @@ fn limits_1(p: f64, T: f64) -> Result<(), Cause>
     if P_MAX < p {
         return Err(Cause::PressureOutOfRange);
     }
-    match beside_pmin_reg1(p, T) {
-        None => Err(Cause::ResultNotFinite),
-        Some(true) => Err(Cause::PressureOutOfRange),
-        Some(false) => Ok(()),
+    let below = beside_pmin_reg1(p, T).ok_or(Cause::ResultNotFinite)?;
+    if below {
+        return Err(Cause::PressureOutOfRange);
     }
+    Ok(())
 }
 
 #[tactic(auto, unfolding(common::specs::Boundaries::cause_of))]
@@ -43,11 +53,11 @@ fn limits_2(p: f64, T: f64) -> Result<(), Cause>
 {
     within(Range::T2, T)?;
     within(Range::P2, p)?;
-    match T2pmax_reg2(T) {
-        None => Err(Cause::ResultNotFinite),
-        Some(most) if most < p => Err(Cause::PressureOutOfRange),
-        Some(_) => Ok(()),
+    let most = T2pmax_reg2(T).ok_or(Cause::ResultNotFinite)?;
+    if most < p {
+        return Err(Cause::PressureOutOfRange);
     }
+    Ok(())
 }
 
 #[tactic(auto, unfolding(common::specs::Boundaries::cause_of))]

@@ -20,5 +20,5 @@ unfolding derivatives rounded of_bits
 returns g c =
     let r = g.R.Read in
     let a = c.args in
-    rw (c.only.ensures, c.turned.ensures, c.divided.ensures, c.tiles-s.ensures, c.terms.ensures, c.none.ensures, c.base.ensures, c.base-2.ensures, c.of-vi.ensures, c.of-vj.ensures)
+    rw (c.only.ensures, c.turned.ensures, c.polys_powi_steps-s.ensures, c.terms.ensures, c.of.ensures, c.of-2.ensures)
     (turned_alike r.only r.laws _ _ (sums_only (vi a.pi) (vj a.tau) terms r.only r.laws))

@@ -10,5 +10,5 @@ unfolding rounded of_bits
 returns g c =
     let r = g.R.Read in
     let a = c.args in
-    rw (c.only.ensures, c.divided.ensures, c.tiles-s.ensures, c.residual_terms.ensures, c.none.ensures, c.base.ensures, c.base-2.ensures, c.of-vi.ensures, c.of-vj.ensures)
+    rw (c.only.ensures, c.polys_powi_steps.ensures, c.residual_terms.ensures, c.of.ensures, c.of-2.ensures)
     (sums_only a.pi (equation.vj a.tau) equation.residual_terms r.only r.laws)

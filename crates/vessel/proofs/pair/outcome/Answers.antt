@@ -1,5 +1,5 @@
 -- `vessel::pair::outcome` meets its contract: behind its tests the pair decides. Assumes nothing.
-use Rattle.std.proofs.Common.{rules, ◌≡◌, Bool, true, false}
+use Rattle.std.proofs.Common.{rules, ◌≡◌, true, false}
 use mathlib.Core.Bool.{◌&&◌}
 use lib.Ieee.Scale.{finite}
 use borrow.Author.Tests.{le-leb}
