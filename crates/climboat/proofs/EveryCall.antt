@@ -1,9 +1,7 @@
 -- The question in the record is the question asked by number: one theorem over all calls of the C interface; and the numbers told are the numbers given, or 0 where they name nothing. Assumes nothing.
 use Prim.Native.Nat.{ℕ}
-use mathlib.Core.Path.{◌≡◌, refl, sym, subst}
+use mathlib.Core.Path.{◌≡◌, refl}
 use mathlib.Core.Logic.{◌⊎◌, inl, inr}
-use mathlib.Core.Bool.{true}
-use lib.Dec.{T, eqb, eqb→eq}
 use lib.Ieee.{Float}
 use Rattle.std.specs.Prelude.{Option, Some, None}
 use Rattle.search.specs.Decision.{None as NoRow}
@@ -19,6 +17,7 @@ use Rattle.vessel.specs.declared.asked.Kind.{Kind}
 use Rattle.vessel.specs.declared.asked.Kind.TheVariants.{Pv}
 use Rattle.vessel.specs.declared.answer.Answer.{Answer}
 use Rattle.pairs.specs.Names.{regions, region_named}
+use Rattle.pairs.proofs.Names.{is, Told, region_told}
 use Rattle.vessel.specs.Names.{pv_regions, properties, pv_region_named, property_named}
 use Rattle.vessel.specs.declared.pair.PvRegion.{PvRegion}
 use Rattle.vessel.specs.declared.property.Property.{Property}
@@ -56,12 +55,12 @@ says (Th2p region T h limit) = in_a_region _ T h _ (λ r. vessels.says (vessel.T
 says (Ts2p region T s limit) = in_a_region _ T s _ (λ r. vessels.says (vessel.Ts2p r T s limit)) (region_named region)
 
 -- ---- the numbers told
-is : (n k : ℕ) → eqb n k ≡ true → k ≡ n
-is n k h = sym (eqb→eq n k (subst T (sym h) tt))
-
 pub region-told : (n : ℕ) → (region_number (region_named n) ≡ n) ⊎ ((region_number (region_named n) ≡ 0) × NoRow (regions n))
-unfolding region_named
-region-told n = decides (λ a. (region_number a ≡ n) ⊎ ((region_number a ≡ 0) × NoRow (regions n))) (regions n) None ((λ h. inl (is n 1 h)), ((λ h. inl (is n 2 h)), ((λ h. inl (is n 5 h)), tt))) (λ h. inr (refl, h))
+region-told n = by (region_named n) (region_told n)
+  where
+    by : (a : Option Region) → Told n a → (region_number a ≡ n) ⊎ ((region_number a ≡ 0) × NoRow (regions n))
+    by (Some region) h = inl h
+    by None h = inr (refl, h)
 
 pub pv_region-told : (n : ℕ) → (region_number (of_pv (pv_region_named n)) ≡ n) ⊎ ((region_number (of_pv (pv_region_named n)) ≡ 0) × NoRow (pv_regions n))
 unfolding pv_region_named

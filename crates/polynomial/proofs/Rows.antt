@@ -237,16 +237,21 @@ module _ {S : Type 0} (f : S → Row → S) (s : S) (rs : List Row) where
 module _ {S : Type 0} (f : S → Row → S) (s : S) (rs : List Row) where
   -- behind the last piece the loop's next start may lie behind the table's end
   abbrev pub Reached : S → ℕ → Type 0
-  Reached x a = Upto f s rs x (min a (length rs))
+  Reached x a = Summed f s rs x (min a (length rs))
 
   pub reached_none : Reached s 0
-  reached_none = let n : 0 ≡ min 0 (length rs) = omega arith in subst (Upto f s rs s) n (upto_none f s rs)
+  reached_none = let n : 0 ≡ min 0 (length rs) = omega arith in subst (Summed f s rs s) n (summed_none f s rs)
 
   pub reached_next : {x y : S} {a e n : ℕ} (size : ℕ) → Reached x a → a < n → n ≡ length rs → e ≡ min (a + size) n → y ≡ over f x (part a e rs) → Reached y (a + size)
-  reached_next {x} {y} {a} {e} {n} size v h l m q =
+  reached_next {x} {y} {a} {e} zero v h l m q =
       let at : min a (length rs) ≡ a = omega arith in
-      let to : e ≡ min (a + size) (length rs) = omega arith in
-      subst (Upto f s rs y) to (upto_next f s rs a e (omega arith) (subst (Upto f s rs x) at v) q)
+      let to : e ≡ min (a + 0) (length rs) = omega arith in
+      let before = subst (Summed f s rs x) at v in
+      subst (Summed f s rs y) to (record { within = omega arith; upto = upto_next f s rs a e (omega arith) before.upto q })
+  reached_next {x} {y} {a} {e} (suc size) v h l m q =
+      let at : min a (length rs) ≡ a = omega arith in
+      let to : e ≡ min (a + suc size) (length rs) = omega arith in
+      subst (Summed f s rs y) to (summed_next f s rs (subst (Summed f s rs x) at v) (cut_within (omega arith) (omega arith) to) q)
 
   pub reached_all : {x : S} {a : ℕ} → Reached x a → length rs ≤ a → x ≡ over f s rs
-  reached_all {x} {a} v h = upto_all f s rs (min a (length rs)) (omega arith) v
+  reached_all {x} {a} v h = summed_all f s rs v (omega arith)

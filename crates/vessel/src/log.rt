@@ -18,6 +18,7 @@ struct Reading {
 }
 
 // What the call by (p,T) gives, without what it is of.
+#[tactic(auto, unfolding(crate::specs::Calls::property, crate::specs::Answer::direct))]
 fn number_and_value(region: Region, property: Property, p: f64, T: f64) -> Reading
     ensures { result ≡ reading_of (property_of region property p T) }
 {
